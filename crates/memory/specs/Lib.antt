@@ -1,0 +1,4 @@
+pub mod Cells
+pub mod Answers
+pub mod Numbers
+pub mod Makes

@@ -1,0 +1,9 @@
+pub mod Faults
+pub mod Numbers
+pub mod Access
+pub mod Address
+pub mod Step
+pub mod Run
+pub mod Machine
+pub mod Isolation
+pub mod Laws

@@ -1,0 +1,7 @@
+use borrow.Author.Needs.{needs}
+use Rattle.model.specs.Step.{instruction}
+use Rattle.processor.proofs.instructions.carry_out.Needs as need
+
+pub returns : need.returns
+unfolding instruction
+returns g c = search needs
