@@ -1,6 +1,7 @@
 //! The machine that a host calls: two users over any memory.
 
 pub mod calls;
+pub mod compare;
 mod map_word;
 pub mod permit;
 mod record;

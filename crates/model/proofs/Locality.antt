@@ -23,6 +23,7 @@ use Rattle.model.specs.Faults.{located, faulted, raised}
 use Rattle.model.specs.Access.{Access, ret, halt, reading, writing, _>>=_, page-at, placed, Done, read-at, write-at, written-at, fetching, putting, onward, perform}
 use Rattle.model.specs.Step.{instruction}
 use Rattle.model.specs.Run.{settle, turned, with-word, executed, advanced, settled, runs}
+use Rattle.model.specs.Laws.{Locality, Frame}
 use Rattle.model.specs.Isolation.{Within, Fenced, Map-within, Map-fenced, Same}
 use Rattle.model.proofs.Rows.{cond-rel, cond-if, same-refl, same-sym, same-trans, same-reading, same-writing, same-written, same-apart}
 
@@ -151,3 +152,9 @@ module _ (mine : ℕ → Bool) where
   runs-frame zero n m f r c = same-refl
   runs-frame (suc b) n m f r c =
       settled-frame c (advanced m r c) (advanced-frame m f r c) n (λ q ds. runs b (n + 1) m q ds) (λ q c′. runs-frame b (n + 1) m f q c′)
+
+pub locality : Locality
+locality mine m i n r c d s = runs-local mine n 0 m i r c d s
+
+pub frame : Frame
+frame mine m f n r c = runs-frame mine n 0 m f r c

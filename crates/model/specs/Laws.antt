@@ -15,9 +15,8 @@ use Rattle.model.specs.declared.user.Registers.{Registers}
 use Rattle.model.specs.declared.user.User.{User}
 use Rattle.model.specs.declared.user.UserMap.{UserMap}
 use Rattle.model.specs.Numbers.{number-of, values-of}
-use Rattle.model.specs.Run.{advanced}
+use Rattle.model.specs.Run.{advanced, runs}
 use Rattle.model.specs.Machine.{Call, map, put, get, start, run, show, Answer, denied, refused, granted, got, permit, ran, shown, State, user-of, call, Acted}
-use Rattle.model.specs.Access.{Access, perform}
 use Rattle.model.specs.Isolation.{Past, Agreement, Same, Map-within, Map-fenced}
 
 -- ---- laws of one call
@@ -148,14 +147,14 @@ pub record Happens (s : State) (k : Call) (x : Answer) (t : State) : Type 0 wher
 abbrev pub Agreements : Type 0
 Agreements = (s t : State) → Agreement s t
 
--- ---- what any program can read and alter: it goes by the map alone, whatever it asks
+-- ---- what any program can read and alter goes by its user's map
 
--- through entries that lead into `mine`, what it comes to rests on the cells of `mine` alone
-abbrev pub Locality : Type 1
+-- through entries that lead into `mine` alone, what a run comes to rests on the cells of `mine` alone
+abbrev pub Locality : Type 0
 Locality =
-    (X : Type 0) (mine : ℕ → Bool) (m : UserMap) → Map-within mine m → (c d : Row) → Same mine c d → (t : Access X) →
-    (perform m c t .0 ≡ perform m d t .0) × Same mine (perform m c t .1) (perform m d t .1)
+    (mine : ℕ → Bool) (m : UserMap) → Map-within mine m → (n : ℕ) (r : Registers) (c d : Row) → Same mine c d →
+    let x = runs n 0 m r c in let y = runs n 0 m r d in (x .0 ≡ y .0) × (x .1 ≡ y .1) × Same mine (x .2) (y .2)
 
--- where every entry into `mine` refuses writes, it leaves the cells of `mine` as they were
-abbrev pub Frame : Type 1
-Frame = (X : Type 0) (mine : ℕ → Bool) (m : UserMap) → Map-fenced mine m → (c : Row) (t : Access X) → Same mine c (perform m c t .1)
+-- where every entry that leads into `mine` refuses writes, a run leaves the cells of `mine` as they were
+abbrev pub Frame : Type 0
+Frame = (mine : ℕ → Bool) (m : UserMap) → Map-fenced mine m → (n : ℕ) (r : Registers) (c : Row) → Same mine c (runs n 0 m r c .2)

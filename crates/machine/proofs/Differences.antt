@@ -1,0 +1,58 @@
+-- Where two machines differ.
+use mathlib.Core.Bool.{Bool, true, false}
+use mathlib.Core.Path.{_≡_, refl, sym, _∙_, ap, ap₂, subst, subst₂}
+use mathlib.Core.List.{List}
+use mathlib.Core.Logic.{_⊎_, inl, inr}
+use Prim.Native.Nat.{ℕ, _+_, _-_, _*_, _/_, _%_, _<_, _≤_}
+use native.Mathlib.Omega.{arith}
+use borrow.Author.Tests.{ltb-true, ltb-false}
+use lib.Dec.{ltb}
+use lib.ListN.{length, getD}
+use Rattle.std.specs.declared.option.Option.the-variants.{Some, None}
+use Rattle.memory.specs.Cells.{Row}
+use Rattle.model.specs.declared.user.User.{User}
+use Rattle.model.specs.declared.user.Who.{Who}
+use Rattle.model.specs.Machine.{State, user-of}
+use Rattle.machine.specs.declared.compare.Difference.{Difference}
+use Rattle.machine.specs.declared.compare.Difference.the-variants.{Registers, Map, Kind, LatestStop, Cell}
+use Rattle.machine.specs.Compare.{Told-apart, Alike-at, First-apart, address-in, Cells-apart, Compared}
+
+address-at : (bs : List ℕ) (i k : ℕ) → k < 1024 → address-in bs (i * 1024 + k) ≡ getD bs i 0 * 1024 + k
+address-at bs i k h =
+    let q : (i * 1024 + k) / 1024 ≡ i = omega arith in
+    let m : (i * 1024 + k) % 1024 ≡ k = omega arith in
+    ap₂ (λ (x y : ℕ). getD bs x 0 * 1024 + y) q m
+
+split-at : (j n : ℕ) → (j < n) ⊎ (n ≤ j)
+split-at j n = go (ltb j n) refl
+  where
+    go : (b : Bool) → ltb j n ≡ b → (j < n) ⊎ (n ≤ j)
+    go true e = inl (ltb-true j n e)
+    go false e = inr (ltb-false j n e)
+
+-- a difference in the i-th block b is one in all of them
+pub found-in : (bs : List ℕ) (i b : ℕ) (c d c′ d′ : Row) (a : ℕ) → i < length bs → b ≡ getD bs i 0 → c′ ≡ c → d′ ≡ d →
+    ((j : ℕ) → j < i * 1024 → Alike-at c d (address-in bs j)) →
+    First-apart (λ k. b * 1024 + k) 1024 c′ d′ (Some a) → Cells-apart bs c d (Some a)
+found-in bs i b c d c′ d′ a h eb ec ed before f′ =
+    let P : ℕ → Row → Row → Type 0 = λ z x y. First-apart (λ k. z * 1024 + k) 1024 x y (Some a) in
+    let f : P (getD bs i 0) c d = subst (λ (z : ℕ). P z c d) eb (subst₂ (P b) ec ed f′) in
+    (i * 1024 + f .0, omega (arith, h, f .1), f .2 ∙ sym (address-at bs i (f .0) (f .1)), λ j m. go j (f .0) m (f .1) (f .3) (split-at j (i * 1024)), f .4)
+  where
+    go : (j k : ℕ) → j < i * 1024 + k → k < 1024 → ((n : ℕ) → n < k → Alike-at c d (getD bs i 0 * 1024 + n)) → (j < i * 1024) ⊎ (i * 1024 ≤ j) → Alike-at c d (address-in bs j)
+    go j k m l same (inl x) = before j x
+    go j k m l same (inr x) =
+        let n : j ≡ i * 1024 + (j - i * 1024) = omega arith in
+        let p : address-in bs j ≡ getD bs i 0 * 1024 + (j - i * 1024) = ap (address-in bs) n ∙ address-at bs i (j - i * 1024) (omega arith) in
+        subst (λ (x : ℕ). Alike-at c d x) (sym p) (same (j - i * 1024) (omega arith))
+
+-- ---- a part of the record that differs
+pub apart : (p : Difference) (who : Who) (bs : List ℕ) (s t : State) (u v : User) → u ≡ user-of who s → v ≡ user-of who t → Told-apart (Some p) u v → Compared (Some p) who bs s t
+apart p who bs s t u v eu ev h′ = go p (subst₂ (Told-apart (Some p)) eu ev h′)
+  where
+    go : (q : Difference) → Told-apart (Some q) (user-of who s) (user-of who t) → Compared (Some q) who bs s t
+    go Registers h = h
+    go Map h = h
+    go Kind h = h
+    go LatestStop h = h
+    go (Cell n) h = absurd h
