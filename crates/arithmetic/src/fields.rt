@@ -16,5 +16,9 @@ pub fn low(word: u16, count: u32) -> u16
 pub fn bits(word: u16, from: u32, count: u32) -> u16
     ensures { λ r. ⌜ r ≡ word / 2 ^ from % 2 ^ count ⌝ }
 {
-    if from < 16 { low(word >> from, count) } else { 0 }
+    if from < 16 {
+        low(word >> from, count)
+    } else {
+        0
+    }
 }

@@ -132,11 +132,7 @@ impl<M: Memory> Machine<M> {
     pub fn end(self) -> M
         ensures { λ r. ⌜ M·Memory .cells r ≡ modelled (M·Memory .cells) self .cells ⌝ }
     {
-        let Machine {
-            memory,
-            a: _,
-            b: _,
-        } = self;
+        let Machine { memory, a: _, b: _ } = self;
         memory
     }
 
@@ -177,11 +173,7 @@ impl<M: Memory> Machine<M> {
     }
 
     /// Starts a user. A permit names its user and not its machine: it is held against the record of this one.
-    pub fn start(
-        &mut self,
-        permit: Held,
-        registers: Registers,
-    ) -> Result<Ready, Denied<Held>>
+    pub fn start(&mut self, permit: Held, registers: Registers) -> Result<Ready, Denied<Held>>
         ensures { λ x. ⌜ Makes (M·Memory .cells) (now (self .entry)) (starting (permit .who) registers) (begun x) (now (self .exit)) ⌝ }
     {
         match self.start_user(permit.who, registers) {

@@ -62,11 +62,7 @@ fn same_answer(x: Result<u16, MemoryFault>, y: Result<u16, MemoryFault>) -> bool
 }
 
 // The first cell of a block that differs.
-fn compare_block<M: Memory, N: Memory>(
-    left: &mut M,
-    right: &mut N,
-    start: usize,
-) -> Option<usize>
+fn compare_block<M: Memory, N: Memory>(left: &mut M, right: &mut N, start: usize) -> Option<usize>
     requires { ⌜ start < 1048576 ⌝ }
     ensures answer { λ r. ⌜ First-apart (λ k. start + k) 1024 (M·Memory .cells (now (left .entry))) (N·Memory .cells (now (right .entry))) r ⌝ }
     ensures left { λ _. ⌜ M·Memory .cells (now (left .exit)) ≡ M·Memory .cells (now (left .entry)) ⌝ }
@@ -82,11 +78,7 @@ fn compare_block<M: Memory, N: Memory>(
 }
 
 // The first cell of the blocks, one after the other, that differs.
-fn compare_blocks<M: Memory, N: Memory>(
-    left: &mut M,
-    right: &mut N,
-    blocks: &[u8],
-) -> Option<usize>
+fn compare_blocks<M: Memory, N: Memory>(left: &mut M, right: &mut N, blocks: &[u8]) -> Option<usize>
     ensures answer { λ r. ⌜ Cells-apart (now (blocks .entry)) (M·Memory .cells (now (left .entry))) (N·Memory .cells (now (right .entry))) r ⌝ }
     ensures left { λ _. ⌜ M·Memory .cells (now (left .exit)) ≡ M·Memory .cells (now (left .entry)) ⌝ }
     ensures right { λ _. ⌜ N·Memory .cells (now (right .exit)) ≡ N·Memory .cells (now (right .entry)) ⌝ }

@@ -62,7 +62,7 @@ abbrev pub link : ℕ → Access ℕ
 link a = do
   w ← reading a
   cond (leb 16 a && ltb a 24) (replaced a (raised-by-one w))
-    (cond (leb 24 a && ltb a 32) (replaced a (lowered-by-one w)) (ret w))
+      (cond (leb 24 a && ltb a 32) (replaced a (lowered-by-one w)) (ret w))
 
 -- an address followed through at most n fetches: bits 1-15 of each word, on and on while bit 0 is 1
 abbrev pub follow : ℕ → ℕ → Access ℕ

@@ -8,9 +8,14 @@ use crate::fault::FaultPartialEq;
 #[derive(Clone, Copy, PartialEq, Eq, Debug)]
 pub enum Stop {
     /// The budget is spent; the address is the PC.
-    Spent { address: u16 },
+    Spent {
+        address: u16,
+    },
     /// SYC was done.
-    Call { address: u16, word: u16 },
+    Call {
+        address: u16,
+        word: u16,
+    },
     /// A step was not completed; the word is 0 where none was fetched.
     Faulted {
         address: u16,

@@ -63,12 +63,7 @@ fn fetch_link<M: Memory>(map: &UserMap, memory: &mut M, at: u16) -> Result<u16, 
 }
 
 // The address at the end of a chain of at most `limit` fetches.
-fn resolve<M: Memory>(
-    map: &UserMap,
-    memory: &mut M,
-    first: u16,
-    limit: u16,
-) -> Result<u16, Fault>
+fn resolve<M: Memory>(map: &UserMap, memory: &mut M, first: u16, limit: u16) -> Result<u16, Fault>
     ensures { λ r. ⌜ (r, M·Memory .cells (now (memory .exit))) ≡ perform (now (map .entry)) (M·Memory .cells (now (memory .entry))) (follow first limit) ⌝ }
 {
     let mut at = first;

@@ -135,7 +135,12 @@ fn sta<M: Memory>(
 fn two(r: &mut Registers, word: u16) -> Outcome
     ensures { λ v. ⌜ (v, now (r .exit)) ≡ two-accumulator (now (r .entry)) word ⌝ }
 {
-    let x = operate(word, r.carry, r.ac[source_of(word)], r.ac[destination_of(word)]);
+    let x = operate(
+        word,
+        r.carry,
+        r.ac[source_of(word)],
+        r.ac[destination_of(word)],
+    );
     if bits(word, 3, 1) == 0 {
         r.ac[destination_of(word)] = x.word;
         r.carry = x.carry;

@@ -37,12 +37,7 @@ fn advance<M: Memory>(map: &UserMap, memory: &mut M, r: &mut Registers) -> Turn
 }
 
 /// At most `budget` steps. Whether they are spent is tested before each.
-pub fn run_steps<M: Memory>(
-    map: &UserMap,
-    memory: &mut M,
-    r: &mut Registers,
-    budget: u16,
-) -> Ran
+pub fn run_steps<M: Memory>(map: &UserMap, memory: &mut M, r: &mut Registers, budget: u16) -> Ran
     ensures { λ v. ⌜ (v, now (r .exit), M·Memory .cells (now (memory .exit))) ≡ runs budget 0 (now (map .entry)) (now (r .entry)) (M·Memory .cells (now (memory .entry))) ⌝ }
 {
     for done in 0..budget {
