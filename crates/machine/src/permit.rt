@@ -1,5 +1,6 @@
 //! Permits are made by the machine alone, and each is spent by the call that it allows.
 
+ghost use mathlib.Core.Path.{_≡_};
 use model::Denial;
 use model::Who;
 
@@ -27,4 +28,13 @@ pub enum Permit {
 pub struct Denied<P> {
     pub reason: Denial,
     pub permit: P,
+}
+
+/// Where the permit is let go, the reason alone is handed up.
+pub impl<P: Drop> From<Denied<P>> for Denial as DenialFromDenied {
+    ghost converts = { λ x y. y ≡ x .reason };
+
+    fn from(value: Denied<P>) -> Denial {
+        value.reason
+    }
 }
