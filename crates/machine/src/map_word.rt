@@ -13,7 +13,7 @@ use model::Who;
 
 /// What a map word asks for.
 #[derive(Clone, Copy)]
-pub enum MapWord {
+pub(crate) enum MapWord {
     /// An entry of a user's: its logical block, whether it is write-protected, and its physical block.
     Block(Who, u8, bool, u8),
     /// A user's switches.
@@ -45,7 +45,7 @@ fn is_unlisted(w: u16) -> bool
 }
 
 /// Reads a map word. Bit 0 is ignored, and in a status word also bits 3-5 and 8.
-pub fn read_map_word(w: u16) -> MapWord
+pub(crate) fn read_map_word(w: u16) -> MapWord
     ensures meaning { λ r. ⌜ meant r ≡ map-word w ⌝ }
     ensures small { λ r. ⌜ Small r ⌝ }
 {

@@ -17,7 +17,7 @@ use model::Who;
 use processor::run::run_steps;
 
 /// Sets an entry. Block 127 with the protect bit means no block; any other block has to be in the memory.
-pub fn assign<M: Memory>(
+pub(crate) fn assign<M: Memory>(
     user: &mut User,
     memory: &M,
     logical: u8,
@@ -40,7 +40,7 @@ pub fn assign<M: Memory>(
 }
 
 /// Starts the user. The kind of the record is tested before the PC.
-pub fn begin<M: Memory>(
+pub(crate) fn begin<M: Memory>(
     user: &mut User,
     memory: &M,
     who: Who,
@@ -63,7 +63,7 @@ pub fn begin<M: Memory>(
 }
 
 /// Ready after a spent budget, Held after any other stop.
-pub fn kind_left_by(stop: Stop) -> Kind
+pub(crate) fn kind_left_by(stop: Stop) -> Kind
     ensures { λ k. ⌜ k ≡ kind-after stop ⌝ }
 {
     match stop {
@@ -73,7 +73,7 @@ pub fn kind_left_by(stop: Stop) -> Kind
 }
 
 /// Runs the user, and keeps the stop.
-pub fn carry_on<M: Memory>(
+pub(crate) fn carry_on<M: Memory>(
     user: &mut User,
     memory: &mut M,
     who: Who,

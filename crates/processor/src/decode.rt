@@ -30,7 +30,7 @@ fn decode_extended(word: u16) -> Operation
 }
 
 /// What a word asks for.
-pub fn decode(word: u16) -> Operation
+pub(crate) fn decode(word: u16) -> Operation
     ensures { λ r. ⌜ r ≡ decoded word ⌝ }
 {
     if word < 32768 {

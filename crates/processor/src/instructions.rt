@@ -187,7 +187,7 @@ fn execute<M: Memory>(
 }
 
 /// Carries a word out.
-pub fn carry_out<M: Memory>(
+pub(crate) fn carry_out<M: Memory>(
     map: &UserMap,
     memory: &mut M,
     r: &mut Registers,

@@ -1,3 +1,4 @@
 pub mod Lines
 pub mod Rows
+pub mod Desks
 pub mod Report

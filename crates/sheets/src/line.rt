@@ -11,7 +11,7 @@ use writing::put_line;
 
 /// What a row shows after its number.
 #[derive(Clone, Copy)]
-pub struct Line {
+pub(crate) struct Line {
     pub answer: u16,
     pub stop: u16,
     pub steps: u16,
@@ -19,7 +19,7 @@ pub struct Line {
 }
 
 /// A line of zeros after the answer.
-pub fn quiet(answer: u16) -> Line
+pub(crate) fn quiet(answer: u16) -> Line
     ensures { λ r. ⌜ r ≡ quiet-line answer ⌝ }
 {
     Line {
@@ -35,17 +35,18 @@ pub fn quiet(answer: u16) -> Line
 }
 
 /// The line of a denied row: the denial's number and zeros.
-pub fn denied(reason: Denial) -> Line
+pub(crate) fn denied(reason: Denial) -> Line
     ensures { λ r. ⌜ r ≡ quiet-line (number-of reason) ⌝ }
 {
     quiet(u16::from(reason.number()))
 }
 
 /// Appends a line to the report.
-pub fn append(out: &mut Vec<u8>, number: u16, line: Line) -> Result<(), AllocError>
+pub(crate) fn append(out: &mut Vec<u8>, number: u16, line: Line) -> Result<(), AllocError>
     ensures { λ r. ⌜ made r (λ _. vec-items (now (out .exit)) ≡ vec-items (now (out .entry)) ++ line-bytes number line) ⌝ }
 {
-    let r = line.registers;
+    let Registers { ac, carry, pc } = line.registers;
+    let [ac0, ac1, ac2, ac3] = ac;
     put_line(
         out,
         number,
@@ -53,12 +54,12 @@ pub fn append(out: &mut Vec<u8>, number: u16, line: Line) -> Result<(), AllocErr
             line.answer,
             line.stop,
             line.steps,
-            r.pc,
-            r.ac[0],
-            r.ac[1],
-            r.ac[2],
-            r.ac[3],
-            u16::from(r.carry),
+            pc,
+            ac0,
+            ac1,
+            ac2,
+            ac3,
+            u16::from(carry),
         ],
     )
 }

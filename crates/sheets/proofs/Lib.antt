@@ -1,0 +1,3 @@
+mod KindsKept
+mod Numbers
+mod Rows
