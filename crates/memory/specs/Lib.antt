@@ -2,3 +2,4 @@ pub mod Cells
 pub mod Answers
 pub mod Numbers
 pub mod Makes
+pub mod Survey

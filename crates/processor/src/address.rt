@@ -49,17 +49,14 @@ fn fetch_link<M: Memory>(map: &UserMap, memory: &mut M, at: u16) -> Result<u16, 
     ensures { λ r. ⌜ (r, M·Memory .cells (now (memory .exit))) ≡ perform (now (map .entry)) (M·Memory .cells (now (memory .entry))) (link at) ⌝ }
 {
     let w = fetch(map, memory, at)?;
-    if at >= 0o20 && at < 0o30 {
-        let up = w.wrapping_add(1);
-        put(map, memory, at, up)?;
-        Ok(up)
-    } else if at >= 0o30 && at < 0o40 {
-        let down = w.wrapping_sub(1);
-        put(map, memory, at, down)?;
-        Ok(down)
-    } else {
-        Ok(w)
-    }
+    let by = match at {
+        0o20..=0o27 => 1,
+        0o30..=0o37 => 0o177777,
+        _ => return Ok(w),
+    };
+    let counted = w.wrapping_add(by);
+    put(map, memory, at, counted)?;
+    Ok(counted)
 }
 
 // The address at the end of a chain of at most `limit` fetches.

@@ -2,10 +2,10 @@
 //! leaves them as they were.
 
 ghost use mathlib.Core.Path.{_≡_};
-ghost use Prim.Native.Nat.{ℕ, _<_};
+ghost use Prim.Native.Nat.{ℕ, _+_, _%_, _<_};
 ghost use Rattle.model.specs.Access.{perform};
 ghost use Rattle.model.specs.Address.{moved};
-ghost use Rattle.model.specs.Step.{source, destination, jmp as jumping, jsr as calling, isz as counting-up, dsz as counting-down, lda as loading-one, sta as storing-one, two-accumulator, syc as asking, input-output, operation, instruction};
+ghost use Rattle.model.specs.Step.{source, destination, jmp as jumping, jsr as calling, counted, lda as loading-one, sta as storing-one, two-accumulator, syc as asking, input-output, operation, instruction};
 ghost use Rattle.model.specs.Run.{settle};
 use crate::address::find;
 use crate::decode::decode;
@@ -72,31 +72,18 @@ fn jsr<M: Memory>(
     Ok(Outcome::Next)
 }
 
-fn isz<M: Memory>(
+// A word is counted up or down, by 1 or by 0177777, and the next one skipped where the count comes to 0.
+fn count<M: Memory>(
     map: &UserMap,
     memory: &mut M,
     r: &mut Registers,
     word: u16,
+    by: u16,
 ) -> Result<Outcome, Fault>
-    ensures { λ v. ⌜ (v, now (r .exit), M·Memory .cells (now (memory .exit))) ≡ settle (now (r .entry)) (perform (now (map .entry)) (M·Memory .cells (now (memory .entry))) (counting-up (now (map .entry) .switches) (now (r .entry)) word)) ⌝ }
+    ensures { λ v. ⌜ (v, now (r .exit), M·Memory .cells (now (memory .exit))) ≡ settle (now (r .entry)) (perform (now (map .entry)) (M·Memory .cells (now (memory .entry))) (counted (λ n. (n + by) % 65536) (now (map .entry) .switches) (now (r .entry)) word)) ⌝ }
 {
     let at = find(map, memory, r, word)?;
-    let n = fetch(map, memory, at)?.wrapping_add(1);
-    put(map, memory, at, n)?;
-    move_on(r, if n == 0 { 2 } else { 1 });
-    Ok(Outcome::Next)
-}
-
-fn dsz<M: Memory>(
-    map: &UserMap,
-    memory: &mut M,
-    r: &mut Registers,
-    word: u16,
-) -> Result<Outcome, Fault>
-    ensures { λ v. ⌜ (v, now (r .exit), M·Memory .cells (now (memory .exit))) ≡ settle (now (r .entry)) (perform (now (map .entry)) (M·Memory .cells (now (memory .entry))) (counting-down (now (map .entry) .switches) (now (r .entry)) word)) ⌝ }
-{
-    let at = find(map, memory, r, word)?;
-    let n = fetch(map, memory, at)?.wrapping_sub(1);
+    let n = fetch(map, memory, at)?.wrapping_add(by);
     put(map, memory, at, n)?;
     move_on(r, if n == 0 { 2 } else { 1 });
     Ok(Outcome::Next)
@@ -169,8 +156,8 @@ fn execute<M: Memory>(
     match op {
         Operation::Jmp => jmp(map, memory, r, word),
         Operation::Jsr => jsr(map, memory, r, word),
-        Operation::Isz => isz(map, memory, r, word),
-        Operation::Dsz => dsz(map, memory, r, word),
+        Operation::Isz => count(map, memory, r, word, 1),
+        Operation::Dsz => count(map, memory, r, word, 0o177777),
         Operation::Lda => lda(map, memory, r, word),
         Operation::Sta => sta(map, memory, r, word),
         Operation::InputOutput => {

@@ -108,14 +108,8 @@ impl<M: Memory> Desk<M> {
     {
         let Desk { mut machine, a, b } = self;
         match row {
-            Row::Map(word) => {
-                let line = map_row(&mut machine, word);
-                (line, Desk { machine, a, b })
-            }
-            Row::Put { at, word } => {
-                let line = put_row(&mut machine, at, word);
-                (line, Desk { machine, a, b })
-            }
+            Row::Map(word) => (map_row(&mut machine, word), Desk { machine, a, b }),
+            Row::Put { at, word } => (put_row(&mut machine, at, word), Desk { machine, a, b }),
             Row::Start { user: Who::A, at } => {
                 let (line, a) = start_row(&mut machine, Who::A, a, at);
                 (line, Desk { machine, a, b })

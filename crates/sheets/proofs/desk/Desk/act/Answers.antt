@@ -8,12 +8,12 @@ pub returns-in-Map : need.returns-in-Map
 unfolding carried-out
 returns-in-Map g c =
     let k = map-kept (modelled (g .M·Memory .cells) (c .args .self .machine)) (c .in-Map .word) in
-    let e = same-kinds (c .map-row-line .ensures) in
+    let e = same-kinds (c .map-row .ensures) in
     search needs
 
 pub returns-in-Put : need.returns-in-Put
 unfolding carried-out
-returns-in-Put g c = let e = same-kinds (c .put-row-line .ensures) in search needs
+returns-in-Put g c = let e = same-kinds (c .put-row .ensures) in search needs
 
 pub returns-in-Start-A-rest : need.returns-in-Start-A-rest
 unfolding carried-out
