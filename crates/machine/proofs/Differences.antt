@@ -8,6 +8,7 @@ use native.Mathlib.Omega.{arith}
 use borrow.Author.Tests.{ltb-true, ltb-false}
 use lib.Dec.{ltb}
 use lib.ListN.{length, getD}
+use Rattle.std.specs.declared.option.Option.{Option}
 use Rattle.std.specs.declared.option.Option.the-variants.{Some, None}
 use Rattle.memory.specs.Cells.{Row}
 use Rattle.model.specs.declared.user.User.{User}
@@ -15,7 +16,8 @@ use Rattle.model.specs.declared.user.Who.{Who}
 use Rattle.model.specs.Machine.{State, user-of}
 use Rattle.machine.specs.declared.compare.Difference.{Difference}
 use Rattle.machine.specs.declared.compare.Difference.the-variants.{Registers, Map, Kind, LatestStop, Cell}
-use Rattle.machine.specs.Compare.{Told-apart, Alike-at, First-apart, address-in, Cells-apart, Compared}
+use Rattle.model.proofs.Rows.{same-reading}
+use Rattle.machine.specs.Compare.{Told-apart, Alike-at, First-apart, address-in, Cells-apart, Compared, Among, None-if-alike}
 
 address-at : (bs : List ℕ) (i k : ℕ) → k < 1024 → address-in bs (i * 1024 + k) ≡ getD bs i 0 * 1024 + k
 address-at bs i k h =
@@ -56,3 +58,20 @@ apart p who bs s t u v eu ev h′ = go p (subst₂ (Told-apart (Some p)) eu ev h
     go Kind h = h
     go LatestStop h = h
     go (Cell n) h = absurd h
+
+-- ---- nothing differs where the machines are alike
+in-mine : (bs : List ℕ) (mine : ℕ → Bool) (n k : ℕ) → Among bs mine → k < length bs * 1024 → n ≡ address-in bs k → mine (n / 1024) ≡ true
+in-mine bs mine n k among l e =
+    let i : k / 1024 < length bs = omega (arith, l) in
+    let b : n / 1024 ≡ getD bs (k / 1024) 0 = omega (arith, e) in
+    ap mine b ∙ among (k / 1024) i
+
+pub none-if-alike : (r : Option Difference) (who : Who) (bs : List ℕ) (s t : State) → Compared r who bs s t → None-if-alike r who bs s t
+none-if-alike None who bs s t h mine among al = refl
+none-if-alike (Some Registers) who bs s t h mine among al = absurd (h (ap (λ (u : User). u .registers) (al .user)))
+none-if-alike (Some Map) who bs s t h mine among al = absurd (h .1 (ap (λ (u : User). u .map) (al .user)))
+none-if-alike (Some Kind) who bs s t h mine among al = absurd (h .2 (ap (λ (u : User). u .kind) (al .user)))
+none-if-alike (Some LatestStop) who bs s t h mine among al = absurd (h .3 (ap (λ (u : User). u .latest) (al .user)))
+none-if-alike (Some (Cell n)) who bs s t h mine among al =
+    let f = h .1 in
+    absurd (f .4 (same-reading n (in-mine bs mine n (f .0) among (f .1) (f .2)) (al .memory)))

@@ -1,6 +1,7 @@
 -- When two machines are the same to a user, and where they first differ.
 use mathlib.Core.Path.{_≡_}
 use mathlib.Core.List.{List}
+use mathlib.Core.Bool.{Bool, true}
 use Prim.Native.Nat.{ℕ, _+_, _*_, _/_, _%_, _<_}
 use lib.ListN.{length, getD}
 use Rattle.std.specs.declared.option.Option.{Option}
@@ -10,6 +11,7 @@ use Rattle.memory.specs.Answers.{reading}
 use Rattle.model.specs.declared.user.User.{User}
 use Rattle.model.specs.declared.user.Who.{Who}
 use Rattle.model.specs.Machine.{State, user-of}
+use Rattle.model.specs.Isolation.{Alike}
 use Rattle.machine.specs.declared.compare.Difference.{Difference}
 use Rattle.machine.specs.declared.compare.Difference.the-variants.{Registers, Map, Kind, LatestStop, Cell}
 
@@ -53,3 +55,10 @@ Compared (Some Registers) who blocks s t = Told-apart (Some Registers) (user-of 
 Compared (Some Map) who blocks s t = Told-apart (Some Map) (user-of who s) (user-of who t)
 Compared (Some Kind) who blocks s t = Told-apart (Some Kind) (user-of who s) (user-of who t)
 Compared (Some LatestStop) who blocks s t = Told-apart (Some LatestStop) (user-of who s) (user-of who t)
+
+-- ---- what the agreement comes to: machines that are alike to the user in those blocks compare as equal
+abbrev pub Among : List ℕ → (ℕ → Bool) → Type 0
+Among blocks mine = (i : ℕ) → i < length blocks → mine (getD blocks i 0) ≡ true
+
+abbrev pub None-if-alike : Option Difference → Who → List ℕ → State → State → Type 0
+None-if-alike r who blocks s t = (mine : ℕ → Bool) → Among blocks mine → Alike who mine s t → r ≡ None

@@ -7,7 +7,7 @@ ghost use Rattle.model.specs.Machine.{user-of};
 ghost use Rattle.model.specs.Isolation.{Agreement};
 ghost use Rattle.model.specs.Laws.{Order, Locality, Frame};
 ghost use Rattle.machine.specs.Machine.{modelled};
-ghost use Rattle.machine.specs.Compare.{Told-apart, First-apart, Cells-apart, Compared};
+ghost use Rattle.machine.specs.Compare.{Told-apart, First-apart, Cells-apart, Compared, None-if-alike};
 use crate::calls::Machine;
 use memory::Memory;
 use memory::MemoryFault;
@@ -91,6 +91,24 @@ fn compare_blocks<M: Memory, N: Memory>(left: &mut M, right: &mut N, blocks: &[u
     None
 }
 
+// What differs first: a part of the user's record, or a cell of the blocks.
+fn first_difference<M: Memory, N: Memory>(
+    left: &mut Machine<M>,
+    right: &mut Machine<N>,
+    who: Who,
+    blocks: &[u8],
+) -> Option<Difference>
+    ensures answer { λ r. ⌜ Compared r who (now (blocks .entry)) (modelled (M·Memory .cells) (now (left .entry))) (modelled (N·Memory .cells) (now (right .entry))) ⌝ }
+    ensures left { λ _. ⌜ modelled (M·Memory .cells) (now (left .exit)) ≡ modelled (M·Memory .cells) (now (left .entry)) ⌝ }
+    ensures right { λ _. ⌜ modelled (N·Memory .cells) (now (right .exit)) ≡ modelled (N·Memory .cells) (now (right .entry)) ⌝ }
+{
+    if let Some(part) = compare_users(&record_of(left, who), &record_of(right, who)) {
+        return Some(part);
+    }
+    let at = compare_blocks(&mut left.memory, &mut right.memory, blocks)?;
+    Some(Difference::Cell(at))
+}
+
 /// Whether a user's registers, map, kind of permit and latest stop and every cell of those blocks are equal on two
 /// machines, and else what differs first. A read past the end of a memory counts as the answer that it is.
 ///
@@ -105,14 +123,11 @@ pub fn compare<M: Memory, N: Memory>(
     ensures answer { λ r. ⌜ Compared r who (now (blocks .entry)) (modelled (M·Memory .cells) (now (left .entry))) (modelled (N·Memory .cells) (now (right .entry))) ⌝ }
     ensures left { λ _. ⌜ modelled (M·Memory .cells) (now (left .exit)) ≡ modelled (M·Memory .cells) (now (left .entry)) ⌝ }
     ensures right { λ _. ⌜ modelled (N·Memory .cells) (now (right .exit)) ≡ modelled (N·Memory .cells) (now (right .entry)) ⌝ }
+    ensures alike { λ r. ⌜ None-if-alike r who (now (blocks .entry)) (modelled (M·Memory .cells) (now (left .entry))) (modelled (N·Memory .cells) (now (right .entry))) ⌝ }
     ensures agreement { λ _. ⌜ Agreement (modelled (M·Memory .cells) (now (left .entry))) (modelled (N·Memory .cells) (now (right .entry))) ⌝ }
     ensures order { λ _. ⌜ Order ⌝ }
     ensures locality { λ _. ⌜ Locality ⌝ }
     ensures frame { λ _. ⌜ Frame ⌝ }
 {
-    if let Some(part) = compare_users(&record_of(left, who), &record_of(right, who)) {
-        return Some(part);
-    }
-    let at = compare_blocks(&mut left.memory, &mut right.memory, blocks)?;
-    Some(Difference::Cell(at))
+    first_difference(left, right, who, blocks)
 }

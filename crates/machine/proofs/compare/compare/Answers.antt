@@ -1,16 +1,22 @@
-use borrow.Author.Needs.{needs}
 use Rattle.model.proofs.Isolation.{agreement}
 use Rattle.model.proofs.Order.{order}
 use Rattle.model.proofs.Locality.{locality, frame}
-use Rattle.machine.proofs.Differences.{apart}
 use Rattle.machine.specs.Machine.{modelled}
+use Rattle.machine.proofs.Differences.{none-if-alike}
 use Rattle.machine.proofs.compare.compare.Needs as need
 
-pub returns-in-Some : need.returns-in-Some
-returns-in-Some g c = record { answer = apart (c .in-Some .part) (c .args .who) (c .args .blocks .now) (modelled (g .M·Memory .cells) (c .args .left .now)) (modelled (g .N·Memory .cells) (c .args .right .now)) (c .record-of .result) (c .record-of-2 .result) (c .record-of .ensures) (c .record-of-2 .ensures) (c .in-Some .ensures tt); left = search needs; right = search needs; agreement = agreement _ _; order = order; locality = locality; frame = frame }
-
-pub returns-in-Break-at : need.returns-in-Break-at
-returns-in-Break-at g c = record { answer = search needs; left = search needs; right = search needs; agreement = agreement _ _; order = order; locality = locality; frame = frame }
-
 pub returns : need.returns
-returns g c = record { answer = search needs; left = search needs; right = search needs; agreement = agreement _ _; order = order; locality = locality; frame = frame }
+returns g c =
+    let found = c .first-difference .ensures in
+    record {
+      answer = found .answer;
+      left = found .left;
+      right = found .right;
+      alike =
+          none-if-alike (c .first-difference .result) (c .args .who) (c .args .blocks .now)
+          (modelled (g .M·Memory .cells) (c .args .left .now)) (modelled (g .N·Memory .cells) (c .args .right .now)) (found .answer);
+      agreement = agreement _ _;
+      order = order;
+      locality = locality;
+      frame = frame;
+    }
