@@ -1,14 +1,13 @@
 -- Mending alters no cell, one flip alters none, and an encoded word is that word.
-use mathlib.Core.Path.{_≡_, refl, sym, ap, subst, _∙_}
+use mathlib.Core.Path.{_≡_, refl, sym, ap, _∙_}
 use mathlib.Core.Bool.{Bool, true, false, cond}
-use Prim.Native.Nat.{ℕ, _<_, _≤_, _^_}
+use Prim.Native.Nat.{ℕ, _<_, _^_}
 use native.Mathlib.Omega.{arith}
 use lib.Dec.{eqb, ltb}
-use Rattle.std.proofs.shelf.Tests.{lt-ltb, le-ltb, ne-eqb, cond-true, cond-false, cases-lt, cases-cond}
-use Rattle.memory.specs.Cells.{Cell, word, spoiled}
+use Rattle.std.proofs.shelf.Tests.{lt-ltb, le-ltb, ne-eqb, cond-true, cond-false}
+use Rattle.memory.specs.Cells.{word, spoiled}
 use Rattle.hamming.specs.Hamming.{syndrome-of, word-in, lower, flipped, mended}
-use Rattle.hamming.proofs.Linear.{word-lt}
-use Rattle.hamming.proofs.Codes.{mended-syndrome, mended-lt, mended-sound, flip-found}
+use Rattle.hamming.proofs.Codes.{mended-syndrome, mended-lt, mended-same, flip-found}
 use Rattle.checked.specs.Decoded.{decoded, Mends, One-flip}
 
 -- the cases of the cell are those of the mended number
@@ -30,7 +29,7 @@ decoded-spoiled n h =
 
 -- a sound number with no higher bits stands for the word that it holds
 pub decoded-sound : (n : ℕ) → syndrome-of n ≡ 0 → n < 2 ^ 21 → decoded n ≡ word (word-in n)
-decoded-sound n s l = decoded-word n (omega arith) ∙ ap (λ (x : ℕ). word (word-in x)) (mended-sound n s l)
+decoded-sound n s l = decoded-word n (omega arith) ∙ ap (λ (x : ℕ). word (word-in x)) (mended-same n s l)
 
 pub decoded-mended : (n : ℕ) → syndrome-of n < 22 → decoded (mended n) ≡ decoded n
 decoded-mended n h = decoded-sound (mended n) (mended-syndrome n h) (mended-lt n h) ∙ sym (decoded-word n h)

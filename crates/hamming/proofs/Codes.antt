@@ -9,11 +9,11 @@ use lib.Pow.{pow-pos, shl-shr, field, mod-mod-pow}
 use lib.Bits.{bitAnd, bitXor, xor-self, xor-zero-r, xor-assoc, xor-lt, and-le-r}
 use Rattle.std.specs.Numbers.{reversedOnto}
 use Rattle.std.proofs.shelf.Tests.{cond-false, ne-eqb}
-use Rattle.hamming.specs.Hamming.{held, syndrome-to, syndrome-of, bits-at, word-in, flipped, mended, Flip-found}
+use Rattle.hamming.specs.Hamming.{held, syndrome-to, syndrome-of, bits-at, word-in, flipped, mended, Mended-sound, Flip-found}
 use Rattle.hamming.proofs.Linear.{syndrome-xor, word-xor}
 use Rattle.hamming.proofs.Agree.{Linear, agree}
 use Rattle.hamming.proofs.Tests.{below}
-use Rattle.hamming.proofs.Spread.{left, right, mask, whole, join, after, reversed, words}
+use Rattle.hamming.proofs.Spread.{left, right, whole, join, after, reversed, words}
 
 -- ---- the code's masks
 
@@ -44,13 +44,12 @@ pub spread-lt : (b : ℕ) → spread b < 2 ^ 21
 spread-lt b =
     xor-lt 21 _ _ (xor-lt 21 _ _ (xor-lt 21 _ _ (part-lt b 0x1 2 (lit< tt)) (part-lt b 0xe 3 (lit< tt))) (part-lt b 0x7f0 4 (lit< tt))) (part-lt b 0xf800 5 (lit< tt))
 
-mask-lt : (b m : ℕ) → m < 2 ^ 16 → bitAnd b m < 2 ^ 16
-mask-lt b m h = lt-of-le-of-lt (and-le-r b m) h
+-- parts of 16 bits, whatever the masks
+pub xor-fits : (a b : ℕ) → a < 65536 → b < 65536 → bitXor a b < 65536
+xor-fits a b ha hb = xor-lt 16 a b ha hb
 
-pub gather-lt : (n : ℕ) → gather n < 2 ^ 16
-gather-lt n =
-    xor-lt 16 _ _ (xor-lt 16 _ _ (xor-lt 16 _ _ (mask-lt (n / 2 ^ 2) 0x1 (lit< tt)) (mask-lt (n / 2 ^ 3) 0xe (lit< tt))) (mask-lt (n / 2 ^ 4) 0x7f0 (lit< tt)))
-    (mask-lt (n / 2 ^ 5) 0xf800 (lit< tt))
+pub mask-fits : (b m : ℕ) → m < 65536 → bitAnd b m < 65536
+mask-fits b m h = lt-of-le-of-lt (and-le-r b m) h
 
 -- ---- computed tests
 
@@ -124,7 +123,7 @@ module _ (p : ℕ) (h : p < 22) where
   pub flip-lt : 2 ^ p / 2 < 2 ^ 21
   flip-lt = ltb→lt _ _ (below (λ x. ltb (2 ^ x / 2) (2 ^ 21)) 22 tt p h)
 
--- a flip at a position from 1 on has the same weight
+-- from position 1 on, 2 ^ p / 2 is the weight 2 ^ (p - 1)
 weight : (s : ℕ) → 2 ^ suc s / 2 ≡ 2 ^ s
 weight s = ap (λ (x : ℕ). x / 2) (pow-suc 2 s) ∙ shl-shr (2 ^ s) 1
 
@@ -154,9 +153,12 @@ module _ (n : ℕ) (h : syndrome-of n < 22) where
       subst (λ (x : ℕ). x < 2 ^ 21) (sym (mended-rule n))
       (xor-lt 21 (n % 2 ^ 21) (2 ^ syndrome-of n / 2) (mod-lt n (pow-pos 21)) (flip-lt (syndrome-of n) h))
 
+pub sound-mended : Mended-sound
+sound-mended n h = (mended-syndrome n h, mended-lt n h)
+
 -- a sound number with no higher bits is its own mending
-pub mended-sound : (m : ℕ) → syndrome-of m ≡ 0 → m < 2 ^ 21 → mended m ≡ m
-mended-sound m e l =
+pub mended-same : (m : ℕ) → syndrome-of m ≡ 0 → m < 2 ^ 21 → mended m ≡ m
+mended-same m e l =
     mended-rule m ∙ ap₂ bitXor (mod-eq-of-lt l) (ap (λ (x : ℕ). 2 ^ x / 2) e) ∙ xor-zero-r m
 
 -- ---- one flip

@@ -1,5 +1,5 @@
 -- What masks and shifts do passes exclusive or through.
-use mathlib.Core.Path.{_≡_, refl, sym, ap, ap₂, subst, _∙_}
+use mathlib.Core.Path.{_≡_, refl, sym, ap, ap₂, _∙_}
 use Prim.Native.Nat.{ℕ, zero, suc, _+_, _*_, _/_, _%_, _^_, _<_}
 use native.Mathlib.Nat.{mod-lt, zero-lt-suc, div-add-mod', add-zero}
 use native.Mathlib.Omega.{arith}
@@ -7,8 +7,8 @@ use lib.Arith.{bin-ind}
 use lib.Pow.{pow-pos}
 use lib.Bits.{bitAnd, bitXor, xor-shr, xor-mod, xor-block, and-shr, and-mod}
 use Rattle.std.specs.Numbers.{reversedOnto}
-use Rattle.hamming.specs.Hamming.{syndrome-of, word-in}
-use Rattle.hamming.proofs.Linear.{xor-four, syndrome-xor, word-xor}
+use Rattle.hamming.specs.Hamming.{word-in}
+use Rattle.hamming.proofs.Linear.{xor-four, word-xor}
 use Rattle.hamming.proofs.Agree.{Linear}
 
 two-pos : zero < 2
@@ -54,9 +54,6 @@ left m k = record {
 pub right : (m k : ℕ) → Linear (λ n. bitAnd (n / 2 ^ k) m)
 right m k = record { xors = λ a b. ap (λ (x : ℕ). bitAnd x m) (xor-shr a b k) ∙ and-xor (a / 2 ^ k) (b / 2 ^ k) m }
 
-pub mask : (m : ℕ) → Linear (λ n. bitAnd n m)
-mask m = record { xors = λ a b. and-xor a b m }
-
 pub whole : Linear (λ n. n)
 whole = record { xors = λ a b. refl }
 
@@ -77,9 +74,6 @@ reversed-xor (suc k) a b v w =
 
 pub reversed : (k : ℕ) → Linear (λ n. reversedOnto k n 0)
 reversed k = record { xors = λ a b. reversed-xor k a b 0 0 }
-
-pub syndromes : Linear syndrome-of
-syndromes = record { xors = syndrome-xor }
 
 pub words : Linear word-in
 words = record { xors = word-xor }

@@ -44,6 +44,10 @@ flipped n p = bitXor n (2 ^ (p - 1))
 unfoldable pub mended : ℕ → ℕ
 mended n = cond (eqb (syndrome-of n) 0) (lower n) (flipped (lower n) (syndrome-of n))
 
+-- a number that is not spoiled is mended to one that is sound and has no higher bits
+abbrev pub Mended-sound : Type 0
+Mended-sound = (n : ℕ) → syndrome-of n < 22 → (syndrome-of (mended n) ≡ 0) × (mended n < 2 ^ 21)
+
 -- a sound number with one position turned over: the syndrome names the position, and mending turns it back
 abbrev pub Flip-found : Type 0
 Flip-found =

@@ -1,9 +1,9 @@
 //! The checked number: 21 positions that hold a word and its checks, so that one flipped position is found.
 
 ghost use mathlib.Core.Path.{_≡_};
-ghost use Prim.Native.Nat.{ℕ, _^_, _<_};
+ghost use Prim.Native.Nat.{_^_, _<_};
 ghost use Rattle.std.specs.Numbers.{Checked};
-ghost use Rattle.hamming.specs.Hamming.{syndrome-of, word-in, mended, Flip-found};
+ghost use Rattle.hamming.specs.Hamming.{syndrome-of, word-in, mended, Mended-sound, Flip-found};
 
 /// The first syndrome that names no position: from here on a number is spoiled.
 const SPOILED: u32 = 22;
@@ -25,7 +25,7 @@ pub fn syndrome(n: u32) -> u32
 /// The number with no higher bits and the position that its syndrome names turned over, unless it is spoiled.
 pub fn mend(n: u32) -> Option<u32>
     ensures answer { λ r. ⌜ Checked r (syndrome-of n < 22) (mended n) ⌝ }
-    ensures sound { λ r. ⌜ (syndrome-of n < 22 → (syndrome-of (mended n) ≡ 0) × (mended n < 2 ^ 21)) ⌝ }
+    ensures sound { λ _. ⌜ Mended-sound ⌝ }
     ensures flip { λ _. ⌜ Flip-found ⌝ }
 {
     let s = syndrome(n);

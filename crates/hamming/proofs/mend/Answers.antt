@@ -1,11 +1,11 @@
 use mathlib.Core.Path.{_≡_}
-use Prim.Native.Nat.{ℕ, _-_, _*_, _%_, _^_}
+use Prim.Native.Nat.{_-_, _*_, _%_, _^_}
 use native.Mathlib.Omega.{arith}
 use borrow.Author.Needs.{needs}
 use lib.Bits.{and-mask}
 use Rattle.std.proofs.shelf.Bits.{one-shl}
 use Rattle.hamming.specs.Hamming.{mended}
-use Rattle.hamming.proofs.Codes.{mended-syndrome, mended-lt, flip-found}
+use Rattle.hamming.proofs.Codes.{sound-mended, flip-found}
 use Rattle.hamming.proofs.mend.Needs as need
 
 pub returns-then-s-eq0 : need.returns-then-s-eq0
@@ -14,7 +14,7 @@ returns-then-s-eq0 c =
     let low = and-mask (c .args .n) 21 in
     record {
       answer = search (needs, low);
-      sound = λ h. (mended-syndrome (c .args .n) h, mended-lt (c .args .n) h);
+      sound = sound-mended;
       flip = flip-found;
     }
 
@@ -25,7 +25,7 @@ returns-then-s-lt-SPOILED c =
     let one : (1 * 2 ^ (c .syndrome-s .result - 1)) % 2 ^ 32 ≡ 2 ^ (c .syndrome-s .result - 1) = one-shl (c .syndrome-s .result - 1) 32 (omega arith) in
     record {
       answer = search (needs, low, one);
-      sound = λ h. (mended-syndrome (c .args .n) h, mended-lt (c .args .n) h);
+      sound = sound-mended;
       flip = flip-found;
     }
 
@@ -33,6 +33,6 @@ pub returns-else-s-lt-SPOILED : need.returns-else-s-lt-SPOILED
 returns-else-s-lt-SPOILED c =
     record {
       answer = search needs;
-      sound = λ h. (mended-syndrome (c .args .n) h, mended-lt (c .args .n) h);
+      sound = sound-mended;
       flip = flip-found;
     }

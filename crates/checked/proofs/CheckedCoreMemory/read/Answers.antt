@@ -16,7 +16,12 @@ returns-in-Some c =
     let f = c .in-Some .ensures tt .answer in
     let d = decoded-word _ (f .0) in
     let m = mends _ (f .0) in
-    search (needs, d, m)
+    record {
+      answer = search (needs, d);
+      after = search (needs, m);
+      leaves = search needs;
+      mends = search (needs, m);
+    }
 
 pub returns-in-None : need.returns-in-None
 returns-in-None c =

@@ -5,4 +5,9 @@ use Rattle.checked.proofs.CheckedCoreMemory.write.Needs as need
 pub returns : need.returns
 returns c =
     let d = decoded-sound _ (c .encode .ensures .sound) (c .encode .ensures .below) in
-    search (needs, d)
+    record {
+      answer = search needs;
+      after = search (needs, d);
+      leaves = search (needs, d);
+      keeps = search needs;
+    }
