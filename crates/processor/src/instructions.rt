@@ -7,10 +7,38 @@ ghost use Rattle.model.specs.Access.{perform};
 ghost use Rattle.model.specs.Address.{moved};
 ghost use Rattle.model.specs.Step.{source, destination, jmp as jumping, jsr as calling, counted, lda as loading-one, sta as storing-one, two-accumulator, syc as asking, input-output, operation, instruction};
 ghost use Rattle.model.specs.Run.{settle};
-use crate::address::find;
+use crate::accumulators::addi;
+use crate::accumulators::adi;
+use crate::accumulators::anc;
+use crate::accumulators::andi;
+use crate::accumulators::cob;
+use crate::accumulators::dad;
+use crate::accumulators::dhxl;
+use crate::accumulators::dhxr;
+use crate::accumulators::dlsh;
+use crate::accumulators::dsb;
+use crate::accumulators::hlv;
+use crate::accumulators::hxl;
+use crate::accumulators::hxr;
+use crate::accumulators::ior;
+use crate::accumulators::iori;
+use crate::accumulators::lob;
+use crate::accumulators::lrb;
+use crate::accumulators::lsh;
+use crate::accumulators::pass;
+use crate::accumulators::sbi;
+use crate::accumulators::sge;
+use crate::accumulators::sgt;
+use crate::accumulators::xch;
+use crate::accumulators::xor;
+use crate::accumulators::xori;
 use crate::decode::decode;
-use crate::mapped::fetch;
-use crate::mapped::put;
+use crate::registers::destination_of;
+use crate::registers::move_on;
+use crate::registers::source_of;
+use addressing::address::find;
+use addressing::mapped::fetch;
+use addressing::mapped::put;
 use arithmetic::fields::bits;
 use arithmetic::fields::low;
 use arithmetic::unit::operate;
@@ -21,27 +49,6 @@ use model::Operation;
 use model::Outcome;
 use model::Registers;
 use model::UserMap;
-
-// The accumulators that a word names.
-fn source_of(word: u16) -> usize
-    ensures value { λ v. ⌜ v ≡ source word ⌝ }
-    ensures bound { λ v. ⌜ v < 4 ⌝ }
-{
-    bits(word, 13, 2) as usize
-}
-
-fn destination_of(word: u16) -> usize
-    ensures value { λ v. ⌜ v ≡ destination word ⌝ }
-    ensures bound { λ v. ⌜ v < 4 ⌝ }
-{
-    bits(word, 11, 2) as usize
-}
-
-fn move_on(r: &mut Registers, by: u16)
-    ensures { λ _. ⌜ now (r .exit) ≡ moved (now (r .entry)) by ⌝ }
-{
-    r.pc = low(r.pc.wrapping_add(by), 15);
-}
 
 fn jmp<M: Memory>(
     map: &UserMap,
@@ -168,6 +175,31 @@ fn execute<M: Memory>(
             }
         }
         Operation::TwoAccumulator => Ok(two(r, word)),
+        Operation::Adi => Ok(adi(r, word)),
+        Operation::Sbi => Ok(sbi(r, word)),
+        Operation::Dad => Ok(dad(r, word)),
+        Operation::Dsb => Ok(dsb(r, word)),
+        Operation::Ior => Ok(ior(r, word)),
+        Operation::Xor => Ok(xor(r, word)),
+        Operation::Anc => Ok(anc(r, word)),
+        Operation::Xch => Ok(xch(r, word)),
+        Operation::Sgt => Ok(sgt(r, word)),
+        Operation::Sge => Ok(sge(r, word)),
+        Operation::Lsh => Ok(lsh(r, word)),
+        Operation::Dlsh => Ok(dlsh(r, word)),
+        Operation::Hxl => Ok(hxl(r, word)),
+        Operation::Hxr => Ok(hxr(r, word)),
+        Operation::Dhxl => Ok(dhxl(r, word)),
+        Operation::Dhxr => Ok(dhxr(r, word)),
+        Operation::Lob => Ok(lob(r, word)),
+        Operation::Lrb => Ok(lrb(r, word)),
+        Operation::Cob => Ok(cob(r, word)),
+        Operation::Hlv => Ok(hlv(r, word)),
+        Operation::Iori => iori(map, memory, r, word),
+        Operation::Xori => xori(map, memory, r, word),
+        Operation::Andi => andi(map, memory, r, word),
+        Operation::Addi => addi(map, memory, r, word),
+        Operation::Lmp => Ok(pass(r)),
         Operation::Syc => Ok(syc(r)),
         Operation::Unlisted => Err(Fault::Code),
     }

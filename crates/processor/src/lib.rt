@@ -1,7 +1,7 @@
-//! The processor: mapped access, addresses, instructions and runs, over any memory.
+//! The processor: decoding, instructions, steps and runs, over any memory.
 
-pub mod address;
+mod accumulators;
 mod decode;
 mod instructions;
-pub mod mapped;
+mod registers;
 pub mod run;

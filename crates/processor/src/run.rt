@@ -4,7 +4,7 @@ ghost use mathlib.Core.Path.{_≡_};
 ghost use Prim.Native.Nat.{ℕ, _^_, _<_, _≤_};
 ghost use Rattle.model.specs.Run.{advanced, runs};
 use crate::instructions::carry_out;
-use crate::mapped::fetch;
+use addressing::mapped::fetch;
 use memory::Memory;
 use model::Outcome;
 use model::Ran;

@@ -11,5 +11,5 @@ returns-then-count-lt16 c =
 
 pub returns-else-count-lt16 : need.returns-else-count-lt16
 returns-else-count-lt16 c =
-    let whole = all-of-it (c .args .word) (c .args .count) (omega arith) (omega arith) in
+    let whole = all-of-it 16 (c .args .word) (c .args .count) (omega arith) (omega arith) in
     grind (arith, whole)

@@ -1,5 +1,5 @@
 use native.Mathlib.Omega.{arith}
-use Rattle.processor.proofs.Turns.{one-more}
+use Rattle.addressing.proofs.Turns.{one-more}
 use Rattle.processor.proofs.run.run_steps.Needs as need
 
 pub returns-in-Calls : need.returns-in-Calls

@@ -1,8 +1,8 @@
 use native.Mathlib.Omega.{arith}
 use mathlib.Core.Path.{_≡_}
 use Prim.Native.Nat.{_-_}
-use Rattle.processor.proofs.Turns.{one-more}
-use Rattle.processor.proofs.address.resolve.Needs as need
+use Rattle.addressing.proofs.Turns.{one-more}
+use Rattle.addressing.proofs.address.resolve.Needs as need
 
 pub returns-in-Break-w : need.returns-in-Break-w
 returns-in-Break-w g c = let e = one-more (c .args .limit) (c .loop .counter) (omega arith) in grind (arith, e)

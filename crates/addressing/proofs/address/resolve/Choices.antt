@@ -2,7 +2,7 @@ use mathlib.Core.Path.{_≡_}
 use Prim.Native.Nat.{_-_}
 use Rattle.model.specs.Access.{perform}
 use Rattle.model.specs.Address.{follow}
-use Rattle.processor.proofs.address.resolve.Given as given
+use Rattle.addressing.proofs.address.resolve.Given as given
 
 -- what is left of the chain comes to what the whole chain comes to
 abbrev pub Inv-loop : given.InvT-loop

@@ -1,0 +1,6 @@
+use native.Mathlib.Omega.{arith}
+use Rattle.arithmetic.proofs.Words.{none-above}
+use Rattle.arithmetic.proofs.shifts.wide_right.Needs as need
+
+pub returns-else-n-lt-DOUBLE-BITS : need.returns-else-n-lt-DOUBLE-BITS
+returns-else-n-lt-DOUBLE-BITS c = grind (arith, none-above 32)
