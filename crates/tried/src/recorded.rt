@@ -156,7 +156,7 @@ fn add_line(
 }
 
 /// The groups of a text, in its order. The first malformed line is an error that names it.
-pub fn read_groups(heap: Global, text: &str) -> Result<Vec<Group>, AnyError> {
+pub(crate) fn read_groups(heap: Global, text: &str) -> Result<Vec<Group>, AnyError> {
     let mut groups = Vec::new(heap);
     for (index, text) in text.lines().enumerate() {
         let line = index.saturating_add(1);
