@@ -1,11 +1,12 @@
 #!/usr/bin/env python3
 """A slow, plain interpreter of sheets, for working out what a sheet must report.
 
-    interp.py sheet < a-sheet     > its report
-    interp.py cases < cases.stdin > cases.stdout
+    interpret.py sheet < a-sheet     > its report
+    interpret.py cases < cases.stdin > cases.stdout
 
 It does what docs/MACHINE.md and docs/SHEET.md say, in the plainest way, and makes no attempt at speed.
-Instructions: JMP JSR ISZ DSZ LDA STA, the eight two-accumulator operations, SYC.
+Instructions: JMP JSR ISZ DSZ LDA STA, the eight two-accumulator operations, ADI SBI DAD DSB, IOR XOR ANC XCH,
+SGT SGE, LSH DLSH HXL HXR DHXL DHXR, LOB LRB COB, HLV, IORI XORI ANDI ADDI, LMP, SYC.
 Every other word is stop 16 (I/O word, LEF off) or stop 18.
 """
 import sys
@@ -46,6 +47,39 @@ def bits(word, first, last):
 
 def bit(word, n):
     return bits(word, n, n)
+
+
+def signed(number, width):
+    """A number of that many bits, read as two's complement."""
+    return number - (1 << width) if number >> (width - 1) else number
+
+
+def row_of_bits(number, width):
+    """The bits as a text of 0 and 1, highest first."""
+    return bin(number)[2:].rjust(width, '0')
+
+
+def moved(number, width, left):
+    """The bits moved `left` places to the left (to the right if below 0); zeros come in, what goes out is lost."""
+    row = row_of_bits(number, width)
+    for _ in range(abs(left)):
+        row = row[1:] + '0' if left > 0 else '0' + row[:-1]
+    return int(row, 2)
+
+
+def by_bits(rule, one, other):
+    """The word whose every bit is what the rule gives for the two bits in its place."""
+    pairs = zip(row_of_bits(one, 16), row_of_bits(other, 16))
+    return int(''.join(str(rule(int(a), int(b))) for a, b in pairs), 2)
+
+
+def leading_zeros(word):
+    row = row_of_bits(word, 16)
+    return row.index('1') if '1' in row else 16
+
+
+def without_leading_one(word):
+    return int(row_of_bits(word, 16).replace('1', '0', 1), 2)
 
 
 # ---------------------------------------------------------------- memory
@@ -210,16 +244,117 @@ class Step:
             self.r.carry = carry
         self.advance(skip)
 
+    # --- words with bit 0 set that end in binary 1000
+
+    def second_word(self):
+        return self.read((self.r.pc + 1) % 32768)
+
+    def change(self, ac, value):
+        """An accumulator becomes the value, modulo 65,536."""
+        self.r.ac[ac] = value % 65536
+
+    def pair(self, ac):
+        """An accumulator and the next one (after AC3 comes AC0) as one 32-bit number."""
+        return self.r.ac[ac] * 65536 + self.r.ac[(ac + 1) % 4]
+
+    def change_pair(self, ac, value):
+        self.r.ac[ac] = value // 65536
+        self.r.ac[(ac + 1) % 4] = value % 65536
+
+    def decimal(self, acd, total, carry, fix):
+        """The low digit of ACD becomes (total + fix) mod 16; its other twelve bits stay."""
+        self.r.ac[acd] = bits(self.r.ac[acd], 0, 11) * 16 + (total + fix) % 16
+        self.r.carry = carry
+
+    def extended(self, word):
+        """Answers True if it was SYC."""
+        if word == 0o113410:                        # LMP
+            self.advance()
+            return False
+        first, ac = bits(word, 1, 2), bits(word, 3, 4)
+        code = word - first * 0o20000 - ac * 0o4000     # the word with zeros for both fields
+        if code == 0o103370:                        # the first field chooses: MSP, XCT, HLV, nothing
+            if first != 2:
+                raise Fault(18)
+            self.change(ac, int(signed(self.r.ac[ac], 16) / 2))         # int() drops the fraction: toward 0
+            self.advance()
+            return False
+        if code == 0o103770:                        # the first field chooses: IORI, XORI, ANDI, ADDI
+            i, d = self.second_word(), self.r.ac[ac]
+            self.change(ac, (by_bits(max, i, d),
+                             by_bits(lambda a, b: int(a != b), i, d),
+                             by_bits(min, i, d),
+                             i + d)[first])
+            self.advance(skip=True)                 # on by two: past the second word
+            return False
+        return self.two_fields(code, first, ac)
+
+    def two_fields(self, code, acs, acd):
+        """The codes whose bits 1-2 and 3-4 are free."""
+        s, d = self.r.ac[acs], self.r.ac[acd]
+        n = acs + 1                                 # ADI, SBI and the hex shifts count with the first field
+        skip = False
+        if code == 0o100010:                        # ADI
+            self.change(acd, d + n)
+        elif code == 0o100110:                      # SBI
+            self.change(acd, d - n)
+        elif code == 0o100210:                      # DAD
+            total = d % 16 + s % 16 + self.r.carry
+            if total > 9:
+                self.decimal(acd, total, 1, 6)
+            else:
+                self.decimal(acd, total, 0, 0)
+        elif code == 0o100310:                      # DSB
+            total = d % 16 - s % 16 - 1 + self.r.carry
+            if total < 0:
+                self.decimal(acd, total, 0, 10)
+            else:
+                self.decimal(acd, total, 1, 0)
+        elif code == 0o100410:                      # IOR
+            self.change(acd, by_bits(max, s, d))
+        elif code == 0o100510:                      # XOR
+            self.change(acd, by_bits(lambda a, b: int(a != b), s, d))
+        elif code == 0o100610:                      # ANC
+            self.change(acd, by_bits(min, 65535 - s, d))
+        elif code == 0o100710:                      # XCH
+            self.r.ac[acs] = d
+            self.r.ac[acd] = s
+        elif code == 0o101010:                      # SGT
+            skip = signed(s, 16) > signed(d, 16)
+        elif code == 0o101110:                      # SGE
+            skip = signed(s, 16) >= signed(d, 16)
+        elif code == 0o101210:                      # LSH
+            self.change(acd, moved(d, 16, signed(s % 256, 8)))
+        elif code == 0o101310:                      # DLSH
+            self.change_pair(acd, moved(self.pair(acd), 32, signed(s % 256, 8)))
+        elif code == 0o101410:                      # HXL
+            self.change(acd, moved(d, 16, 4 * n))
+        elif code == 0o101510:                      # HXR
+            self.change(acd, moved(d, 16, -4 * n))
+        elif code == 0o101610:                      # DHXL
+            self.change_pair(acd, moved(self.pair(acd), 32, 4 * n))
+        elif code == 0o101710:                      # DHXR
+            self.change_pair(acd, moved(self.pair(acd), 32, -4 * n))
+        elif code == 0o102410:                      # LOB
+            self.change(acd, d + leading_zeros(s))
+        elif code == 0o102510:                      # LRB
+            if acs != acd:
+                self.change(acd, d + leading_zeros(s))
+            self.change(acs, without_leading_one(s))
+        elif code == 0o102610:                      # COB
+            self.change(acd, d + row_of_bits(s, 16).count('1'))
+        elif code != 0o103510:                      # and SYC does nothing but go on and end the run
+            raise Fault(18)
+        self.advance(skip)
+        return code == 0o103510
+
     def carry_out(self, word):
         """Do what the word says.  Answers True if it was SYC."""
         if bit(word, 0):
             if bits(word, 12, 15) != 0o10:
                 self.two_accumulator(word)
                 return False
-            if word & 0o103777 == 0o103510:         # SYC, any two accumulators
-                self.advance()
-                return True
-            raise Fault(18)
+            return self.extended(word)
         top = bits(word, 1, 2)
         if top == 3:
             raise Fault(18 if self.user.lef else 16)

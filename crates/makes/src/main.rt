@@ -12,7 +12,6 @@ use machine::permit::DenialFromDenied;
 use memory::Memory;
 use memory::PlainCore;
 use memory::PlainCoreMemory;
-use memory::survey;
 use model::Denial;
 use model::Registers;
 use model::StopValues;
@@ -22,6 +21,7 @@ use paired::PairMemory;
 use std::alloc::AllocError;
 use std::alloc::Global;
 use std::error::AnyError;
+use surveying::survey;
 
 // The cells of four blocks.
 const SIZE: usize = 4096;

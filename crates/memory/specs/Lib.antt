@@ -2,4 +2,3 @@ pub mod Cells
 pub mod Answers
 pub mod Numbers
 pub mod Makes
-pub mod Survey

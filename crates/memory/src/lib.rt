@@ -4,7 +4,6 @@ pub mod fault;
 pub mod meaning;
 mod numbers;
 pub mod plain;
-pub mod search;
 pub mod size;
 
 pub use fault::MemoryFault;
@@ -14,5 +13,4 @@ pub use fault::WrongSize;
 pub use meaning::Memory;
 pub use plain::PlainCore;
 pub use plain::PlainCoreMemory;
-pub use search::survey;
 pub use size::is_whole;

@@ -206,7 +206,7 @@ fn execute<M: Memory>(
 }
 
 /// Carries a word out.
-pub(crate) fn carry_out<M: Memory>(
+pub fn carry_out<M: Memory>(
     map: &UserMap,
     memory: &mut M,
     r: &mut Registers,

@@ -1,7 +1,9 @@
+//! A search for spoiled cells.
+
 ghost use mathlib.Core.Path.{_≡_};
-ghost use Rattle.memory.specs.Survey.{Surveyed};
-use crate::fault::MemoryFault;
-use crate::meaning::Memory;
+ghost use Rattle.surveying.specs.Survey.{Surveyed};
+use memory::Memory;
+use memory::MemoryFault;
 
 /// The address of some spoiled cell, or none if there is none. Which one is free, and so is which numbers a make mends
 /// on the way; every cell is as before.

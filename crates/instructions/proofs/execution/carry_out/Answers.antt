@@ -1,6 +1,6 @@
 use borrow.Author.Needs.{needs}
 use Rattle.model.specs.Step.{instruction}
-use Rattle.processor.proofs.instructions.carry_out.Needs as need
+use Rattle.instructions.proofs.execution.carry_out.Needs as need
 
 pub returns : need.returns
 unfolding instruction

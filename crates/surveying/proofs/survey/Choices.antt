@@ -1,7 +1,7 @@
 use mathlib.Core.Path.{_≡_}
 use Prim.Native.Nat.{ℕ, _<_}
 use Rattle.memory.specs.Cells.{spoiled}
-use Rattle.memory.proofs.search.survey.Given as given
+use Rattle.surveying.proofs.survey.Given as given
 
 -- the memory means what it meant, and no cell before this one is spoiled
 abbrev pub Inv-loop-at : given.InvT-loop-at
