@@ -5,9 +5,8 @@
     interpret.py cases < cases.stdin > cases.stdout
 
 It does what docs/MACHINE.md and docs/SHEET.md say, in the plainest way, and makes no attempt at speed.
-Instructions: JMP JSR ISZ DSZ LDA STA, LEF, the eight two-accumulator operations, ADI SBI DAD DSB, IOR XOR ANC XCH,
-SGT SGE, LSH DLSH HXL HXR DHXL DHXR, LOB LRB COB, HLV, IORI XORI ANDI ADDI, EJMP EJSR EISZ EDSZ ELDA ESTA ELEF,
-BTO BTZ SZB SNB SZBO, LDB STB, PSH POP PSHR PSHJ POPJ SAVE RTN MSP, BAM BLM, XCT, LMP, SYC.
+Instructions: JMP JSR ISZ DSZ LDA STA, the eight two-accumulator operations, ADI SBI DAD DSB, IOR XOR ANC XCH,
+SGT SGE, LSH DLSH HXL HXR DHXL DHXR, LOB LRB COB, HLV, IORI XORI ANDI ADDI, LMP, SYC.
 Every other word is stop 16 (I/O word, LEF off) or stop 18.
 """
 import sys
@@ -72,12 +71,6 @@ def by_bits(rule, one, other):
     """The word whose every bit is what the rule gives for the two bits in its place."""
     pairs = zip(row_of_bits(one, 16), row_of_bits(other, 16))
     return int(''.join(str(rule(int(a), int(b))) for a, b in pairs), 2)
-
-
-def with_bit(word, n, value):
-    """The word with its bit n made the value, 0 or 1."""
-    row = row_of_bits(word, 16)
-    return int(row[:n] + str(value) + row[n + 1:], 2)
 
 
 def leading_zeros(word):
@@ -203,18 +196,6 @@ class Step:
             first = (origin + displacement) % 32768
         return self.resolve(first) if bit(word, 5) else first
 
-    def extended_effective(self, word):
-        """The address of an instruction whose second word has the indirect bit and the displacement."""
-        second = self.second_word()
-        behind = (self.r.pc + 1) % 32768
-        origin = {0: 0, 1: behind, 2: self.r.ac[2], 3: self.r.ac[3]}[bits(word, 6, 7)]
-        first = (origin + bits(second, 1, 15)) % 32768
-        return self.resolve(first) if bit(second, 0) else first
-
-    def pointed(self, pointer):
-        """The address that a word gives: its bits 1-15, or where a chain from there ends if its bit 0 is 1."""
-        return self.resolve(bits(pointer, 1, 15)) if bit(pointer, 0) else pointer
-
     # --- instructions
 
     def advance(self, skip=False):
@@ -285,189 +266,14 @@ class Step:
         self.r.ac[acd] = bits(self.r.ac[acd], 0, 11) * 16 + (total + fix) % 16
         self.r.carry = carry
 
-    # --- the stack
-
-    def store_upward(self, pointer, words):
-        """The words go behind the one that is pointed at."""
-        for n, word in enumerate(words):
-            self.write((pointer + 1 + n) % 32768, word)
-
-    def push(self, words):
-        pointer = self.read(0o40)
-        limit = self.read(0o42)
-        if pointer + len(words) > limit:
-            raise Fault(17)
-        self.store_upward(pointer, words)
-        self.write(0o40, pointer + len(words))
-
-    def popped(self, cell, n):
-        """n words read downward from where the cell points, and the pointer below them; nothing is written yet."""
-        pointer = self.read(cell)
-        if pointer - n < 0o400:
-            raise Fault(17)
-        return [self.read((pointer - k) % 32768) for k in range(n)], pointer - n
-
-    def next_but_one(self):
-        return (self.r.pc + 2) % 32768
-
-    def push_accumulators(self, acs, acd):          # PSH
-        self.push([self.r.ac[(acs + k) % 4] for k in range((acd - acs) % 4 + 1)])
-
-    def pop_accumulators(self, acs, acd):           # POP
-        words, pointer = self.popped(0o40, (acs - acd) % 4 + 1)
-        self.write(0o40, pointer)
-        for k, word in enumerate(words):
-            self.r.ac[(acs - k) % 4] = word
-
-    def save(self):                                 # SAVE
-        size = self.second_word()
-        pointer = self.read(0o40)
-        limit = self.read(0o42)
-        old = self.read(0o41)
-        if pointer + 5 + size > limit:
-            raise Fault(17)
-        place = self.r.carry * 32768 + bits(self.r.ac[3], 1, 15)
-        self.store_upward(pointer, self.r.ac[:3] + [old, place])
-        self.write(0o41, pointer + 5)
-        self.write(0o40, pointer + 5 + size)
-        self.r.ac[3] = pointer + 5
-        self.r.pc = self.next_but_one()
-
-    def back(self):                                 # RTN
-        words, pointer = self.popped(0o41, 5)
-        self.write(0o40, pointer)
-        self.write(0o41, words[1])
-        self.r.carry, self.r.pc = bit(words[0], 0), bits(words[0], 1, 15)
-        self.r.ac = [words[4], words[3], words[2], words[1]]
-
-    def modify_stack_pointer(self, ac):             # MSP
-        pointer = self.read(0o40)
-        limit = self.read(0o42)
-        total = (pointer + self.r.ac[ac]) % 65536
-        if total > limit:
-            raise Fault(17)
-        self.write(0o40, total)
-        self.advance()
-
-    # --- bits and bytes in memory
-
-    def bit_place(self, acs, acd):
-        """Address and number of the bit that two accumulators point at."""
-        base = 0 if acs == acd else self.pointed(self.r.ac[acs])
-        d = self.r.ac[acd]
-        return (base + bits(d, 0, 11)) % 32768, bits(d, 12, 15)
-
-    def bit_of_memory(self, acs, acd, becomes=None):
-        """The bit as it is; the word is written back, with the bit changed, if `becomes` is 0 or 1."""
-        at, n = self.bit_place(acs, acd)
-        word = self.read(at)
-        if becomes is not None:
-            self.write(at, with_bit(word, n, becomes))
-        return bit(word, n)
-
-    def load_byte(self, acs, acd):                  # LDB
-        pointer = self.r.ac[acs]
-        word = self.read(pointer // 2)
-        self.r.ac[acd] = bits(word, 8, 15) if pointer % 2 else bits(word, 0, 7)
-
-    def store_byte(self, acs, acd):                 # STB
-        pointer, byte = self.r.ac[acs], bits(self.r.ac[acd], 8, 15)
-        word = self.read(pointer // 2)
-        high, low = bits(word, 0, 7), bits(word, 8, 15)
-        self.write(pointer // 2, high * 256 + byte if pointer % 2 else byte * 256 + low)
-
-    # --- block moves
-
-    def move(self, addend):
-        """One word of BAM or BLM."""
-        count = self.r.ac[1]
-        if count == 0 or count > 0o100000:
-            self.advance()
-            return
-        source = self.pointed(self.r.ac[2])
-        target = self.pointed(self.r.ac[3])
-        self.write(target, (self.read(source) + addend) % 65536)
-        self.r.ac[1] = count - 1
-        self.r.ac[2] = (source + 1) % 32768
-        self.r.ac[3] = (target + 1) % 32768
-        if count == 1:
-            self.advance()
-
-    # --- two words, the second with an address
-
-    def with_address(self, word):
-        """The E forms and PSHJ; bits 1-4 choose among those that have bit 8 clear."""
-        first, ac = bits(word, 1, 2), bits(word, 3, 4)
-        if bit(word, 8) and (first, ac) != (0, 0):
-            raise Fault(18)
-        at = self.extended_effective(word)
-        on = self.next_but_one()
-        if bit(word, 8):                            # PSHJ
-            self.push([on])
-            on = at
-        elif first == 1:                            # ELDA
-            self.r.ac[ac] = self.read(at)
-        elif first == 2:                            # ESTA
-            self.write(at, self.r.ac[ac])
-        elif first == 3:                            # ELEF
-            self.r.ac[ac] = at
-        elif ac == 0:                               # EJMP
-            on = at
-        elif ac == 1:                               # EJSR
-            self.r.ac[3] = on
-            on = at
-        else:                                       # EISZ, EDSZ
-            counted = (self.read(at) + (1 if ac == 2 else -1)) % 65536
-            self.write(at, counted)
-            if counted == 0:
-                on = (on + 1) % 32768
-        self.r.pc = on
-
-    def executed(self, word):
-        """The word that is carried out: that of the accumulator where a row of XCT ends, or the word itself."""
-        followed = 0
-        while bits(word, 0, 2) == 5 and bits(word, 5, 15) == 0o3370:
-            if followed == 4:
-                raise Fault(19)
-            word = self.r.ac[bits(word, 3, 4)]
-            followed += 1
-        return word
-
     def extended(self, word):
         """Answers True if it was SYC."""
         if word == 0o113410:                        # LMP
             self.advance()
             return False
-        if word == 0o113710:                        # BAM
-            self.move(self.r.ac[0])
-            return False
-        if word == 0o133710:                        # BLM
-            self.move(0)
-            return False
-        if word == 0o103710:                        # PSHR
-            self.push([self.next_but_one()])
-            self.advance()
-            return False
-        if word == 0o117710:                        # POPJ
-            words, pointer = self.popped(0o40, 1)
-            self.write(0o40, pointer)
-            self.r.pc = bits(words[0], 1, 15)
-            return False
-        if word == 0o127710:                        # RTN
-            self.back()
-            return False
-        if word == 0o163710:                        # SAVE
-            self.save()
-            return False
-        if bit(word, 5) and bits(word, 8, 15) in (0o070, 0o270):
-            self.with_address(word)
-            return False
         first, ac = bits(word, 1, 2), bits(word, 3, 4)
         code = word - first * 0o20000 - ac * 0o4000     # the word with zeros for both fields
-        if code == 0o103370:                        # the first field chooses: MSP, XCT (met before), HLV, nothing
-            if first == 0:
-                self.modify_stack_pointer(ac)
-                return False
+        if code == 0o103370:                        # the first field chooses: MSP, XCT, HLV, nothing
             if first != 2:
                 raise Fault(18)
             self.change(ac, int(signed(self.r.ac[ac], 16) / 2))         # int() drops the fraction: toward 0
@@ -537,24 +343,6 @@ class Step:
             self.change(acs, without_leading_one(s))
         elif code == 0o102610:                      # COB
             self.change(acd, d + row_of_bits(s, 16).count('1'))
-        elif code == 0o102010:                      # BTO
-            self.bit_of_memory(acs, acd, 1)
-        elif code == 0o102110:                      # BTZ
-            self.bit_of_memory(acs, acd, 0)
-        elif code == 0o102210:                      # SZB
-            skip = self.bit_of_memory(acs, acd) == 0
-        elif code == 0o102310:                      # SZBO
-            skip = self.bit_of_memory(acs, acd, 1) == 0
-        elif code == 0o102770:                      # SNB
-            skip = self.bit_of_memory(acs, acd) == 1
-        elif code == 0o102710:                      # LDB
-            self.load_byte(acs, acd)
-        elif code == 0o103010:                      # STB
-            self.store_byte(acs, acd)
-        elif code == 0o103110:                      # PSH
-            self.push_accumulators(acs, acd)
-        elif code == 0o103210:                      # POP
-            self.pop_accumulators(acs, acd)
         elif code != 0o103510:                      # and SYC does nothing but go on and end the run
             raise Fault(18)
         self.advance(skip)
@@ -562,21 +350,17 @@ class Step:
 
     def carry_out(self, word):
         """Do what the word says.  Answers True if it was SYC."""
-        word = self.executed(word)
         if bit(word, 0):
             if bits(word, 12, 15) != 0o10:
                 self.two_accumulator(word)
                 return False
             return self.extended(word)
         top = bits(word, 1, 2)
-        if top == 3 and not self.user.lef:          # an I/O word
-            raise Fault(16)
+        if top == 3:
+            raise Fault(18 if self.user.lef else 16)
         at = self.effective(word)
         ac = bits(word, 3, 4)
-        if top == 3:                                # LEF
-            self.r.ac[ac] = at
-            self.advance()
-        elif top == 1:                              # LDA
+        if top == 1:                                # LDA
             self.r.ac[ac] = self.read(at)
             self.advance()
         elif top == 2:                              # STA

@@ -1,3 +1,4 @@
-//! The addresses of operands, over any memory.
+//! Mapped access and the addresses of operands, over any memory.
 
 pub mod address;
+pub mod mapped;

@@ -1,22 +1,19 @@
 -- The worked points, each by computing.
-use Rattle.std.proofs.Common.{◌≡◌, ℕ, ◌+◌, ◌-◌, ◌/◌, ◌%◌, ◌^◌, ◌<◌, ◌≤◌, Bool, true, false, cond, not, eqb, Ok, sym, refl, ap, ◌∙◌, ap₂, arith, ne_eqb}
+use mathlib.Core.Path.{◌≡◌, refl, ap, sym, ◌∙◌}
+use mathlib.Core.Bool.{Bool, true, false, not, cond}
+use Prim.Native.Nat.{ℕ, ◌+◌, ◌/◌, ◌%◌, ◌<◌, ◌≤◌}
 use lib.Count.{count_leading_zeros}
-use Rattle.memory.specs.Cells.{Row, word, spoiled}
+use native.Mathlib.Omega.{arith}
+use Rattle.memory.specs.Cells.{word, spoiled}
 use Rattle.hamming.specs.Hamming.{held, syndrome_to, syndrome_of, bits_at, word_in, lower, flipped}
 use Rattle.arithmetic.specs.Digits.{digit_added, digit_subtracted}
-use Rattle.arithmetic.specs.Pointers.{bit_is_one, byte_in}
 use Rattle.arithmetic.specs.Shifts.{shifted_by_signed}
 use Rattle.arithmetic.specs.Signed.{halved}
 use Rattle.arithmetic.specs.Unit.{operated}
 use Rattle.model.specs.declared.denial.Denial.TheVariants.{Block}
 use Rattle.model.specs.declared.user.Registers.{Registers}
-use Rattle.model.specs.declared.user.Switches.{Switches}
-use Rattle.model.specs.declared.user.UserMap.{UserMap}
-use Rattle.model.specs.Access.{reading, ret, ◌>>=◌, perform}
-use Rattle.model.specs.Address.{pointed}
-use Rattle.model.specs.Registers.{source, destination, sourced, aimed}
-use Rattle.model.specs.Accumulators.{lob, loaded_with}
-use Rattle.model.specs.Pointers.{bit_word, ldb}
+use Rattle.model.specs.Address.{accumulator}
+use Rattle.model.specs.Step.{source, destination, lob, loaded_with}
 use Rattle.model.specs.Machine.{State, call, map, sense_of_word, granted, denied}
 use Rattle.checked.specs.Decoded.{decoded}
 use Rattle.gauge.specs.Gauge.{Points}
@@ -44,22 +41,9 @@ hlv_177777 = refl
 lsh_16 : (d : ℕ) → shifted_by_signed 16 16 d ≡ 0
 lsh_16 d = omega arith
 
-lob_0 : (r : Registers) (w : ℕ) → sourced r w ≡ 0 → lob r w ≡ loaded_with r w ((aimed r w + 16) % 65536)
+lob_0 : (r : Registers) (w : ℕ) → accumulator r (source w) ≡ 0 → lob r w ≡ loaded_with r w ((accumulator r (destination w) + 16) % 65536)
 unfolding count_leading_zeros
-lob_0 r w e = ap (λ (s : ℕ). loaded_with r w ((aimed r w + count_leading_zeros 16 s) % 65536)) e
-
-byte_203 : (m : UserMap) (cs : Row) (r : Registers) (w : ℕ) → sourced r w ≡ 0o203 →
-    perform m cs (ldb r w) ≡ perform m cs (reading 0o101 >>= λ x. ret (loaded_with r w (x % 256)))
-byte_203 m cs r w e = ap (λ (p : ℕ). perform m cs (reading (p / 2) >>= λ x. ret (loaded_with r w (byte_in p x)))) e
-
-bit_100_25 : (m : UserMap) (cs : Row) (s : Switches) (r : Registers) (w : ℕ) →
-    (source w ≡ destination w → ⊥) → sourced r w ≡ 0o100 → aimed r w ≡ 0o25 → perform m cs (bit_word s r w) ≡ (Ok 0o101, cs)
-bit_100_25 m cs s r w apart base offset =
-    ap (λ (b : Bool). perform m cs (cond b (ret 0) (pointed s (sourced r w)) >>= λ a. ret ((a + aimed r w / 16) % 32768))) (ne_eqb (source w) (destination w) apart)
-    ∙ ap₂ (λ (p d : ℕ). perform m cs (pointed s p >>= λ a. ret ((a + d / 16) % 32768))) base offset
-
-bit_25 : (x : ℕ) → bit_is_one 0o25 x ≡ eqb (x / 2 ^ (15 - 5) % 2) 1
-bit_25 x = refl
+lob_0 r w e = ap (λ (s : ℕ). loaded_with r w ((accumulator r (destination w) + count_leading_zeros 16 s) % 65536)) e
 
 checked_7 : decoded 7 ≡ word 0o100000
 unfolding decoded held syndrome_to syndrome_of bits_at word_in
@@ -91,9 +75,6 @@ points = record {
   hlv_177777 = hlv_177777;
   lsh_16 = lsh_16;
   lob_0 = lob_0;
-  byte_203 = byte_203;
-  bit_100_25 = bit_100_25;
-  bit_25 = bit_25;
   checked_7 = checked_7;
   checked_6 = checked_6;
   checked_66048 = checked_66048;

@@ -1,19 +1,14 @@
 -- Worked points of the rules.
-use Rattle.std.specs.Prelude.{◌≡◌, ℕ, ◌+◌, ◌-◌, ◌/◌, ◌%◌, ◌^◌, ◌<◌, ◌≤◌, Bool, true, false, not, Ok, ◌==◌, ◌≢◌}
-use Rattle.memory.specs.Cells.{Row, word, spoiled}
+use Rattle.std.specs.Prelude.{◌≡◌, Bool, true, false, not, ℕ, ◌+◌, ◌%◌, ◌<◌, ◌≤◌}
+use Rattle.memory.specs.Cells.{word, spoiled}
 use Rattle.arithmetic.specs.Digits.{digit_added, digit_subtracted}
-use Rattle.arithmetic.specs.Pointers.{bit_is_one}
 use Rattle.arithmetic.specs.Shifts.{shifted_by_signed}
 use Rattle.arithmetic.specs.Signed.{halved}
 use Rattle.arithmetic.specs.Unit.{operated}
 use Rattle.model.specs.declared.denial.Denial.TheVariants.{Block}
 use Rattle.model.specs.declared.user.Registers.{Registers}
-use Rattle.model.specs.declared.user.Switches.{Switches}
-use Rattle.model.specs.declared.user.UserMap.{UserMap}
-use Rattle.model.specs.Access.{reading, ret, ◌>>=◌, perform}
-use Rattle.model.specs.Registers.{source, destination, sourced, aimed}
-use Rattle.model.specs.Accumulators.{lob, loaded_with}
-use Rattle.model.specs.Pointers.{bit_word, ldb}
+use Rattle.model.specs.Address.{accumulator}
+use Rattle.model.specs.Step.{source, destination, lob, loaded_with}
 use Rattle.model.specs.Machine.{State, call, map, granted, denied}
 use Rattle.checked.specs.Decoded.{decoded}
 
@@ -29,14 +24,7 @@ pub record Points : Type 0 where
   -- HLV of 0177777 is 0, LSH by 16 is 0, LOB of 0 adds 16
   pub hlv_177777 : halved 0o177777 ≡ 0
   pub lsh_16 : (d : ℕ) → shifted_by_signed 16 16 d ≡ 0
-  pub lob_0 : (r : Registers) (w : ℕ) → sourced r w ≡ 0 → lob r w ≡ loaded_with r w ((aimed r w + 16) % 65536)
-  -- byte pointer 0203 is the low byte of 0101
-  pub byte_203 : (m : UserMap) (cs : Row) (r : Registers) (w : ℕ) → sourced r w ≡ 0o203 →
-      perform m cs (ldb r w) ≡ perform m cs (reading 0o101 >>= λ x. ret (loaded_with r w (x % 256)))
-  -- bit pointer 0100, 025 is bit 5 of 0101
-  pub bit_100_25 : (m : UserMap) (cs : Row) (s : Switches) (r : Registers) (w : ℕ) →
-      (source w ≢ destination w) → sourced r w ≡ 0o100 → aimed r w ≡ 0o25 → perform m cs (bit_word s r w) ≡ (Ok 0o101, cs)
-  pub bit_25 : (x : ℕ) → bit_is_one 0o25 x ≡ (x / 2 ^ (15 - 5) % 2 == 1)
+  pub lob_0 : (r : Registers) (w : ℕ) → accumulator r (source w) ≡ 0 → lob r w ≡ loaded_with r w ((accumulator r (destination w) + 16) % 65536)
   -- the checked numbers 7 and 6 are read as 0100000, and 66048 is spoiled
   pub checked_7 : decoded 7 ≡ word 0o100000
   pub checked_6 : decoded 6 ≡ word 0o100000

@@ -5,8 +5,8 @@ ghost use Rattle.gauge.specs.Gauge.{Points};
 
 /// How many points there are; each of them holds.
 pub fn shown_points() -> u32
-    ensures count { result ≡ 16 }
+    ensures count { result ≡ 13 }
     ensures points { Points }
 {
-    16
+    13
 }

@@ -1,50 +1,121 @@
-//! What a word does. Each instruction changes the registers only after its last access, so that one which is not
-//! completed leaves them as they were.
+//! The instructions. Each changes the registers only after its last access, so that one which is not completed
+//! leaves them as they were.
 
-ghost use Rattle.std.specs.Prelude.{◌≡◌, ℕ};
+ghost use Rattle.std.specs.Prelude.{◌≡◌, ℕ, ◌+◌, ◌%◌, ◌<◌};
 ghost use Rattle.model.specs.Access.{perform};
+ghost use Rattle.model.specs.Address.{moved};
+ghost use Rattle.model.specs.Step.{source, destination, jmp as jumping, jsr as calling, counted, lda as loading-one, sta as storing-one, two_accumulator, syc as asking, input_output, operation, instruction};
 ghost use Rattle.model.specs.Run.{settle};
-ghost use Rattle.model.specs.Reference as reference;
-ghost use Rattle.model.specs.Step.{lmp, syc, led_to, operation, instruction};
 
-use crate::references::{count, jmp, jsr, lda, lef, sta};
-use accumulators::alone::alter;
-use accumulators::immediate::combine_second;
-use accumulators::unit::compute;
-use decoding::decode::decode;
-use decoding::registers::{destination_in, move_on};
+use crate::accumulators::{
+    addi, adi, anc, andi, cob, dad, dhxl, dhxr, dlsh, dsb, hlv, hxl, hxr, ior, iori, lob, lrb, lsh,
+    pass, sbi, sge, sgt, xch, xor, xori,
+};
+use crate::decode::decode;
+use crate::registers::{destination_of, move_on, source_of};
+use addressing::address::find;
+use addressing::mapped::{fetch, put};
+use arithmetic::fields::{bits, low};
+use arithmetic::unit::{operate, skips};
 use memory::Memory;
-use model::{Fault, Form, Operation, Outcome, Registers, UserMap};
-use pointers::execution::go_by_pointer;
-use stack::execution::use_stack;
+use model::{Fault, Operation, Outcome, Registers, UserMap};
 
-// An I/O word is a device's, unless LEF is on.
-fn input_output<M: Memory>(
+fn jmp<M: Memory>(
     map: &UserMap,
     memory: &mut M,
     r: &mut Registers,
     word: u16,
 ) -> Result<Outcome, Fault>
-    ensures { (result, r.new, M.Memory.cells memory.new) ≡ settle r.old (perform map.now (M.Memory.cells memory.old) (reference.input_output map.now.switches r.old word)) }
+    ensures { (result, r.new, M.Memory.cells memory.new) ≡ settle r.old (perform map.now (M.Memory.cells memory.old) (jumping map.now.switches r.old word)) }
 {
-    if map.switches.lef {
-        lef(map, memory, r, word, Form::Short)
-    } else {
-        Err(Fault::Device)
-    }
+    let at = find(map, memory, r, word)?;
+    r.pc = at;
+    Ok(Outcome::Next)
 }
 
-// Nothing is loaded into the map by a user.
-fn pass(r: &mut Registers) -> Outcome
-    ensures { (result, r.new) ≡ lmp r.old }
+fn jsr<M: Memory>(
+    map: &UserMap,
+    memory: &mut M,
+    r: &mut Registers,
+    word: u16,
+) -> Result<Outcome, Fault>
+    ensures { (result, r.new, M.Memory.cells memory.new) ≡ settle r.old (perform map.now (M.Memory.cells memory.old) (calling map.now.switches r.old word)) }
 {
+    let at = find(map, memory, r, word)?;
     move_on(r, 1);
+    let back = r.pc;
+    r.ac[3] = back;
+    r.pc = at;
+    Ok(Outcome::Next)
+}
+
+// A word is counted up or down, by 1 or by 0177777, and the next one skipped where the count comes to 0.
+fn count<M: Memory>(
+    map: &UserMap,
+    memory: &mut M,
+    r: &mut Registers,
+    word: u16,
+    by: u16,
+) -> Result<Outcome, Fault>
+    ensures { (result, r.new, M.Memory.cells memory.new) ≡ settle r.old (perform map.now (M.Memory.cells memory.old) (counted (λ n. (n + by) % 65536) map.now.switches r.old word)) }
+{
+    let at = find(map, memory, r, word)?;
+    let n = fetch(map, memory, at)?.wrapping_add(by);
+    put(map, memory, at, n)?;
+    move_on(r, if n == 0 { 2 } else { 1 });
+    Ok(Outcome::Next)
+}
+
+fn lda<M: Memory>(
+    map: &UserMap,
+    memory: &mut M,
+    r: &mut Registers,
+    word: u16,
+) -> Result<Outcome, Fault>
+    ensures { (result, r.new, M.Memory.cells memory.new) ≡ settle r.old (perform map.now (M.Memory.cells memory.old) (loading-one map.now.switches r.old word)) }
+{
+    let at = find(map, memory, r, word)?;
+    let n = fetch(map, memory, at)?;
+    r.ac[destination_of(word)] = n;
+    move_on(r, 1);
+    Ok(Outcome::Next)
+}
+
+fn sta<M: Memory>(
+    map: &UserMap,
+    memory: &mut M,
+    r: &mut Registers,
+    word: u16,
+) -> Result<Outcome, Fault>
+    ensures { (result, r.new, M.Memory.cells memory.new) ≡ settle r.old (perform map.now (M.Memory.cells memory.old) (storing-one map.now.switches r.old word)) }
+{
+    let at = find(map, memory, r, word)?;
+    put(map, memory, at, r.ac[destination_of(word)])?;
+    move_on(r, 1);
+    Ok(Outcome::Next)
+}
+
+// Bit 12 keeps the result from being loaded.
+fn two(r: &mut Registers, word: u16) -> Outcome
+    ensures { (result, r.new) ≡ two_accumulator r.old word }
+{
+    let x = operate(
+        word,
+        r.carry,
+        r.ac[source_of(word)],
+        r.ac[destination_of(word)],
+    );
+    if bits(word, 3, 1) == 0 {
+        r.ac[destination_of(word)] = x.word;
+        r.carry = x.carry;
+    }
+    move_on(r, if skips(word, x) { 2 } else { 1 });
     Outcome::Next
 }
 
 // The supervisor is called; the PC stands behind the word.
-fn call_supervisor(r: &mut Registers) -> Outcome
-    ensures { (result, r.new) ≡ syc r.old }
+fn syc(r: &mut Registers) -> Outcome
+    ensures { (result, r.new) ≡ asking r.old }
 {
     move_on(r, 1);
     Outcome::Called
@@ -60,44 +131,48 @@ fn execute<M: Memory>(
     ensures { (result, r.new, M.Memory.cells memory.new) ≡ settle r.old (perform map.now (M.Memory.cells memory.old) (operation map.now.switches r.old op word)) }
 {
     match op {
-        Operation::Jmp => jmp(map, memory, r, word, Form::Short),
-        Operation::Jsr => jsr(map, memory, r, word, Form::Short),
-        Operation::Isz => count(map, memory, r, word, Form::Short, 1),
-        Operation::Dsz => count(map, memory, r, word, Form::Short, 0o177777),
-        Operation::Lda => lda(map, memory, r, word, Form::Short),
-        Operation::Sta => sta(map, memory, r, word, Form::Short),
-        Operation::InputOutput => input_output(map, memory, r, word),
-        Operation::TwoAccumulator => Ok(compute(r, word)),
-        Operation::Ejmp => jmp(map, memory, r, word, Form::Extended),
-        Operation::Ejsr => jsr(map, memory, r, word, Form::Extended),
-        Operation::Eisz => count(map, memory, r, word, Form::Extended, 1),
-        Operation::Edsz => count(map, memory, r, word, Form::Extended, 0o177777),
-        Operation::Elda => lda(map, memory, r, word, Form::Extended),
-        Operation::Esta => sta(map, memory, r, word, Form::Extended),
-        Operation::Elef => lef(map, memory, r, word, Form::Extended),
-        Operation::Accumulator(op) => Ok(alter(r, op, word)),
-        Operation::Immediate(op) => combine_second(map, memory, r, op, word),
-        Operation::Pointer(op) => go_by_pointer(map, memory, r, op, word),
-        Operation::Stack(op) => use_stack(map, memory, r, op, word),
+        Operation::Jmp => jmp(map, memory, r, word),
+        Operation::Jsr => jsr(map, memory, r, word),
+        Operation::Isz => count(map, memory, r, word, 1),
+        Operation::Dsz => count(map, memory, r, word, 0o177777),
+        Operation::Lda => lda(map, memory, r, word),
+        Operation::Sta => sta(map, memory, r, word),
+        Operation::InputOutput => {
+            if map.switches.lef {
+                Err(Fault::Code)
+            } else {
+                Err(Fault::Device)
+            }
+        }
+        Operation::TwoAccumulator => Ok(two(r, word)),
+        Operation::Adi => Ok(adi(r, word)),
+        Operation::Sbi => Ok(sbi(r, word)),
+        Operation::Dad => Ok(dad(r, word)),
+        Operation::Dsb => Ok(dsb(r, word)),
+        Operation::Ior => Ok(ior(r, word)),
+        Operation::Xor => Ok(xor(r, word)),
+        Operation::Anc => Ok(anc(r, word)),
+        Operation::Xch => Ok(xch(r, word)),
+        Operation::Sgt => Ok(sgt(r, word)),
+        Operation::Sge => Ok(sge(r, word)),
+        Operation::Lsh => Ok(lsh(r, word)),
+        Operation::Dlsh => Ok(dlsh(r, word)),
+        Operation::Hxl => Ok(hxl(r, word)),
+        Operation::Hxr => Ok(hxr(r, word)),
+        Operation::Dhxl => Ok(dhxl(r, word)),
+        Operation::Dhxr => Ok(dhxr(r, word)),
+        Operation::Lob => Ok(lob(r, word)),
+        Operation::Lrb => Ok(lrb(r, word)),
+        Operation::Cob => Ok(cob(r, word)),
+        Operation::Hlv => Ok(hlv(r, word)),
+        Operation::Iori => iori(map, memory, r, word),
+        Operation::Xori => xori(map, memory, r, word),
+        Operation::Andi => andi(map, memory, r, word),
+        Operation::Addi => addi(map, memory, r, word),
         Operation::Lmp => Ok(pass(r)),
-        Operation::Syc => Ok(call_supervisor(r)),
-        Operation::Xct => Err(Fault::Execute),
+        Operation::Syc => Ok(syc(r)),
         Operation::Unlisted => Err(Fault::Code),
     }
-}
-
-// The word that XCT leads to: the one in its accumulator takes its place, through at most four accumulators.
-fn follow_xct(r: &Registers, word: u16) -> u16
-    ensures { result ≡ led_to 4 r.now word }
-{
-    let mut last = word;
-    for _ in 0..4u16 {
-        if last & 0o163777 != 0o123370 {
-            return last;
-        }
-        last = destination_in(r, last);
-    }
-    last
 }
 
 /// Carries a word out.
@@ -109,6 +184,5 @@ pub fn carry_out<M: Memory>(
 ) -> Result<Outcome, Fault>
     ensures { (result, r.new, M.Memory.cells memory.new) ≡ settle r.old (perform map.now (M.Memory.cells memory.old) (instruction map.now.switches r.old word)) }
 {
-    let last = follow_xct(r, word);
-    execute(map, memory, r, decode(last), last)
+    execute(map, memory, r, decode(word), word)
 }

@@ -1,4 +1,6 @@
-//! What a word does.
+//! What each word does: decoding, and the instructions, over any memory.
 
+mod accumulators;
+mod decode;
 pub mod execution;
-mod references;
+mod registers;

@@ -6,10 +6,3 @@ pub mod Laws
 pub mod Stepwise
 pub mod Order
 pub mod Pasts
-pub mod Loads
-pub mod Reach
-pub mod Decoding
-pub mod CutRuns
-pub mod BlockMoves
-pub mod Stacks
-pub mod Programs

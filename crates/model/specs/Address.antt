@@ -1,12 +1,27 @@
 -- Where an instruction's operand is: bases, displacements and indirect chains.
-use Rattle.std.specs.Prelude.{ℕ, zero, suc, ◌+◌, ◌-◌, ◌/◌, ◌%◌, Bool, cond, ◌&&◌, ◌==◌, nat_le, nat_lt}
-use Rattle.model.specs.declared.operation.Form.{Form}
-use Rattle.model.specs.declared.operation.Form.TheVariants.{Short, Extended}
+use Rattle.std.specs.Prelude.{ℕ, zero, suc, ◌+◌, ◌-◌, ◌/◌, ◌%◌, Bool, cond, ◌&&◌, ◌==◌, nat_le, nat_lt, slice_index, slice_set}
 use Rattle.model.specs.declared.user.Registers.{Registers}
 use Rattle.model.specs.declared.user.Switches.{Switches}
 use Rattle.model.specs.Faults.{chain}
 use Rattle.model.specs.Access.{Access, ret, halt, reading, writing, ◌>>=◌}
-use Rattle.model.specs.Registers.{accumulator, moved}
+
+-- ---- registers
+
+abbrev pub accumulator : Registers → ℕ → ℕ
+accumulator r n = slice_index r.ac n
+
+abbrev pub with_accumulator : Registers → ℕ → ℕ → Registers
+with_accumulator r n w = record { ac = slice_set r.ac n w; carry = r.carry; pc = r.pc }
+
+abbrev pub with_carry : Registers → Bool → Registers
+with_carry r c = record { ac = r.ac; carry = c; pc = r.pc }
+
+abbrev pub with_pc : Registers → ℕ → Registers
+with_pc r a = record { ac = r.ac; carry = r.carry; pc = a }
+
+-- so many words on; addresses and the PC wrap at 15 bits
+abbrev pub moved : Registers → ℕ → Registers
+moved r n = with_pc r ((r.pc + n) % 32768)
 
 -- ---- the first address
 
@@ -20,20 +35,6 @@ first_address r w =
     cond (w / 256 % 4 == 0) (w % 256)
     (cond (w / 256 % 4 == 1) (displaced r.pc (w % 256))
     (displaced (accumulator r (w / 256 % 4)) (w % 256)))
-
--- ---- the second word of an instruction that has one
-
--- it is fetched through the map, from behind the word at the PC
-abbrev pub second : Registers → Access ℕ
-second r = reading (moved r 1).pc
-
--- an E form: bits 6-7 of its word give the base, which for 1 is the address of the second word; bits 1-15 of the second
--- word x are the displacement
-abbrev pub extended_address : Registers → ℕ → ℕ → ℕ
-extended_address r w x =
-    cond (w / 256 % 4 == 0) (x % 32768)
-    (cond (w / 256 % 4 == 1) ((r.pc + 1 + x) % 32768)
-    ((accumulator r (w / 256 % 4) + x) % 32768))
 
 -- ---- indirect chains
 
@@ -67,22 +68,6 @@ follow a (suc n) = do
   w ← link a
   cond (nat_lt w 32768) (ret w) (follow (w % 32768) n)
 
--- an address, or the end of the chain that begins there where it is indirect
-abbrev pub sought : Switches → Bool → ℕ → Access ℕ
-sought s indirect a = cond indirect (follow a (chain_limit s)) (ret a)
-
--- a word as a pointer: bit 0 says that it is indirect
-abbrev pub pointed : Switches → ℕ → Access ℕ
-pointed s x = sought s (nat_le 32768 x) (x % 32768)
-
--- the address of the operand: bit 5 of the word says that it is indirect, and in an E form bit 0 of the second word
-abbrev pub effective : Form → Switches → Registers → ℕ → Access ℕ
-effective Short s r w = sought s (w / 1024 % 2 == 1) (first_address r w)
-effective Extended s r w = do
-  x ← second r
-  sought s (nat_le 32768 x) (extended_address r w x)
-
--- how many words the instruction takes
-abbrev pub words : Form → ℕ
-words Short = 1
-words Extended = 2
+-- the address of the operand; bit 5 of the word says that it is indirect
+abbrev pub effective : Switches → Registers → ℕ → Access ℕ
+effective s r w = cond (w / 1024 % 2 == 1) (follow (first_address r w) (chain_limit s)) (ret (first_address r w))

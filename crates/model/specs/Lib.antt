@@ -1,16 +1,9 @@
 pub mod Faults
 pub mod Numbers
 pub mod Access
-pub mod Registers
 pub mod Address
-pub mod Accumulators
-pub mod Reference
-pub mod Pointers
-pub mod Stack
-pub mod Codes
 pub mod Step
 pub mod Run
 pub mod Machine
 pub mod Isolation
 pub mod Laws
-pub mod Programs

@@ -1,21 +1,250 @@
 -- What each word does, over logical addresses, in the order in which the machine reads and writes.
-use Rattle.std.specs.Prelude.{ℕ, zero, suc, ◌+◌, ◌%◌, Bool, cond}
-use Rattle.model.specs.declared.operation.Form.TheVariants.{Short, Extended}
-use Rattle.model.specs.declared.operation.Operation.{Operation}
-use Rattle.model.specs.declared.operation.Operation.TheVariants.{Jmp, Jsr, Isz, Dsz, Lda, Sta, InputOutput, TwoAccumulator, Ejmp, Ejsr, Eisz, Edsz, Elda, Esta, Elef, Accumulator, Immediate, Pointer, Stack, Lmp, Syc, Xct, Unlisted}
+use Rattle.std.specs.Prelude.{ℕ, ◌+◌, ◌-◌, ◌*◌, ◌/◌, ◌%◌, Bool, true, false, cond, ◌==◌, bit_and, bit_or, bit_xor, count_ones, int_le, int_lt, nat_lt}
+use Rattle.std.specs.Int.Count.{count_leading_zeros}
+use Rattle.arithmetic.specs.Counts.{without_leading_one}
+use Rattle.arithmetic.specs.Digits.{digit_added, digit_subtracted}
+use Rattle.arithmetic.specs.Shifts.{shifted_left, shifted_right, shifted_by_signed, hex_places, number, halves}
+use Rattle.arithmetic.specs.Signed.{integer, halved}
+use Rattle.arithmetic.specs.Unit.{operated, skipping}
+use Rattle.arithmetic.specs.declared.shifts.Double.{Double}
+use Rattle.arithmetic.specs.declared.unit.Wide.{Wide}
+use Rattle.model.specs.declared.steps.Operation.{Operation}
+use Rattle.model.specs.declared.steps.Operation.TheVariants.{Jmp, Jsr, Isz, Dsz, Lda, Sta, InputOutput, TwoAccumulator, Adi, Sbi, Dad, Dsb, Ior, Xor, Anc, Xch, Sgt, Sge, Lsh, Dlsh, Hxl, Hxr, Dhxl, Dhxr, Lob, Lrb, Cob, Hlv, Iori, Xori, Andi, Addi, Lmp, Syc, Unlisted}
 use Rattle.model.specs.declared.steps.Outcome.{Outcome}
 use Rattle.model.specs.declared.steps.Outcome.TheVariants.{Next, Called}
 use Rattle.model.specs.declared.user.Registers.{Registers}
 use Rattle.model.specs.declared.user.Switches.{Switches}
-use Rattle.model.specs.Faults.{code, execute}
-use Rattle.model.specs.Access.{ret, halt}
-use Rattle.model.specs.Registers.{moved, aimed}
-use Rattle.model.specs.Address.{raised_by_one, lowered_by_one}
-use Rattle.model.specs.Accumulators.{two_accumulator, altered, immediate}
-use Rattle.model.specs.Reference.{Effect, jmp, jsr, counted, lda, sta, lef, input_output}
-use Rattle.model.specs.Pointers.{by_pointer}
-use Rattle.model.specs.Stack.{on_stack}
-use Rattle.model.specs.Codes.{fits, one, decoded}
+use Rattle.model.specs.Faults.{device, code}
+use Rattle.model.specs.Access.{Access, ret, halt, reading, writing, ◌>>=◌}
+use Rattle.model.specs.Address.{accumulator, with_accumulator, with_carry, with_pc, moved, raised_by_one, lowered_by_one, effective}
+
+-- ---- which operation a word asks for
+
+-- bit 0 is 0: by bits 1-4
+abbrev pub decoded_low : ℕ → Operation
+decoded_low w =
+    cond (w / 2048 % 16 == 0) Jmp
+    (cond (w / 2048 % 16 == 1) Jsr
+    (cond (w / 2048 % 16 == 2) Isz
+    (cond (w / 2048 % 16 == 3) Dsz
+    (cond (nat_lt (w / 2048 % 16) 8) Lda
+    (cond (nat_lt (w / 2048 % 16) 12) Sta
+    InputOutput)))))
+
+-- bit 0 is 1 and bits 12-15 are 010. A code names no accumulator in bits 1-4, or one in bits 3-4, or two; the bits of
+-- those that it names are 0 in the lists below
+abbrev pub without_two : ℕ → ℕ
+without_two w = 32768 + w % 2048
+
+abbrev pub without_one : ℕ → ℕ
+without_one w = w / 8192 * 8192 + w % 2048
+
+abbrev pub decoded_none : ℕ → Operation
+decoded_none w = cond (w == 0o113410) Lmp Unlisted
+
+abbrev pub decoded_one : ℕ → Operation
+decoded_one w =
+    cond (without_one w == 0o143370) Hlv
+    (cond (without_one w == 0o103770) Iori
+    (cond (without_one w == 0o123770) Xori
+    (cond (without_one w == 0o143770) Andi
+    (cond (without_one w == 0o163770) Addi
+    (decoded_none w)))))
+
+abbrev pub decoded_two : ℕ → Operation
+decoded_two w =
+    cond (without_two w == 0o100010) Adi
+    (cond (without_two w == 0o100110) Sbi
+    (cond (without_two w == 0o100210) Dad
+    (cond (without_two w == 0o100310) Dsb
+    (cond (without_two w == 0o100410) Ior
+    (cond (without_two w == 0o100510) Xor
+    (cond (without_two w == 0o100610) Anc
+    (cond (without_two w == 0o100710) Xch
+    (cond (without_two w == 0o101010) Sgt
+    (cond (without_two w == 0o101110) Sge
+    (cond (without_two w == 0o101210) Lsh
+    (cond (without_two w == 0o101310) Dlsh
+    (cond (without_two w == 0o101410) Hxl
+    (cond (without_two w == 0o101510) Hxr
+    (cond (without_two w == 0o101610) Dhxl
+    (cond (without_two w == 0o101710) Dhxr
+    (cond (without_two w == 0o102410) Lob
+    (cond (without_two w == 0o102510) Lrb
+    (cond (without_two w == 0o102610) Cob
+    (cond (without_two w == 0o103510) Syc
+    (decoded_one w))))))))))))))))))))
+
+abbrev pub decoded : ℕ → Operation
+decoded w = cond (nat_lt w 32768) (decoded_low w) (cond (w % 16 == 0o10) (decoded_two w) TwoAccumulator)
+
+-- ---- the operations: r is the registers before, w the word
+
+-- bits 1-2 and 3-4
+abbrev pub source : ℕ → ℕ
+source w = w / 8192 % 4
+
+abbrev pub destination : ℕ → ℕ
+destination w = w / 2048 % 4
+
+-- a completed instruction, with the registers after it
+abbrev pub Effect : Type 1
+Effect = Access (Outcome × Registers)
+
+abbrev pub jmp : Switches → Registers → ℕ → Effect
+jmp s r w = do
+  at ← effective s r w
+  ret (Next, with_pc r at)
+
+-- AC3 keeps the address of the next word
+abbrev pub jsr : Switches → Registers → ℕ → Effect
+jsr s r w = do
+  at ← effective s r w
+  ret (Next, with_pc (with_accumulator r 3 (moved r 1).pc) at)
+
+-- a word is counted, and the next one skipped where the count comes to 0
+abbrev pub counted : (ℕ → ℕ) → Switches → Registers → ℕ → Effect
+counted f s r w = do
+  at ← effective s r w
+  n ← reading at
+  _ ← writing at (f n)
+  ret (Next, moved r (cond (f n == 0) 2 1))
+
+abbrev pub isz : Switches → Registers → ℕ → Effect
+isz = counted raised_by_one
+
+abbrev pub dsz : Switches → Registers → ℕ → Effect
+dsz = counted lowered_by_one
+
+abbrev pub lda : Switches → Registers → ℕ → Effect
+lda s r w = do
+  at ← effective s r w
+  n ← reading at
+  ret (Next, moved (with_accumulator r (destination w) n) 1)
+
+abbrev pub sta : Switches → Registers → ℕ → Effect
+sta s r w = do
+  at ← effective s r w
+  _ ← writing at (accumulator r (destination w))
+  ret (Next, moved r 1)
+
+-- bit 12 keeps the result from being loaded
+abbrev pub loading : Registers → ℕ → Wide → Registers
+loading r w x = cond (w / 8 % 2 == 0) (with_carry (with_accumulator r (destination w) x.word) x.carry) r
+
+abbrev pub two_accumulator : Registers → ℕ → Outcome × Registers
+two_accumulator r w =
+    let x = operated w r.carry (accumulator r (source w)) (accumulator r (destination w)) in
+    (Next, moved (loading r w x) (cond (skipping w x) 2 1))
+
+-- ---- operations on accumulators alone: s is the source's word and d the destination's
+
+abbrev pub sourced : Registers → ℕ → ℕ
+sourced r w = accumulator r (source w)
+
+abbrev pub aimed : Registers → ℕ → ℕ
+aimed r w = accumulator r (destination w)
+
+-- the destination becomes x
+abbrev pub loaded_with : Registers → ℕ → ℕ → Outcome × Registers
+loaded_with r w x = (Next, moved (with_accumulator r (destination w) x) 1)
+
+-- the immediate field stands where the source does, and is one less than what is added or subtracted
+abbrev pub adi : Registers → ℕ → Outcome × Registers
+adi r w = loaded_with r w ((aimed r w + (source w + 1)) % 65536)
+
+abbrev pub sbi : Registers → ℕ → Outcome × Registers
+sbi r w = loaded_with r w ((aimed r w + 65536 - (source w + 1)) % 65536)
+
+abbrev pub digit : (Bool → ℕ → ℕ → Wide) → Registers → ℕ → Outcome × Registers
+digit f r w =
+    let x = f r.carry (sourced r w) (aimed r w) in
+    (Next, moved (with_carry (with_accumulator r (destination w) x.word) x.carry) 1)
+
+abbrev pub ior : Registers → ℕ → Outcome × Registers
+ior r w = loaded_with r w (bit_or (sourced r w) (aimed r w))
+
+abbrev pub xor : Registers → ℕ → Outcome × Registers
+xor r w = loaded_with r w (bit_xor (sourced r w) (aimed r w))
+
+-- the complement of the source and the destination
+abbrev pub anc : Registers → ℕ → Outcome × Registers
+anc r w = loaded_with r w (bit_and (65535 - sourced r w) (aimed r w))
+
+abbrev pub xch : Registers → ℕ → Outcome × Registers
+xch r w = (Next, moved (with_accumulator (with_accumulator r (source w) (aimed r w)) (destination w) (sourced r w)) 1)
+
+-- a comparison of signed numbers; the next word is skipped where it holds
+abbrev pub skip_if : Bool → Registers → Outcome × Registers
+skip_if b r = (Next, moved r (cond b 2 1))
+
+abbrev pub sgt : Registers → ℕ → Outcome × Registers
+sgt r w = skip_if (int_lt (integer (aimed r w)) (integer (sourced r w))) r
+
+abbrev pub sge : Registers → ℕ → Outcome × Registers
+sge r w = skip_if (int_le (integer (aimed r w)) (integer (sourced r w))) r
+
+-- bits 8-15 of the source are a signed count
+abbrev pub lsh : Registers → ℕ → Outcome × Registers
+lsh r w = loaded_with r w (shifted_by_signed 16 (sourced r w % 256) (aimed r w))
+
+-- the immediate field is one less than the hex digits that are shifted
+abbrev pub hxl : Registers → ℕ → Outcome × Registers
+hxl r w = loaded_with r w (shifted_left 16 (hex_places (source w)) (aimed r w))
+
+abbrev pub hxr : Registers → ℕ → Outcome × Registers
+hxr r w = loaded_with r w (shifted_right (hex_places (source w)) (aimed r w))
+
+-- two adjoining accumulators, the destination and the next, are one number of 32 bits; after AC3 comes AC0
+abbrev pub next_to : ℕ → ℕ
+next_to n = (n + 1) % 4
+
+abbrev pub doubled : Registers → ℕ → Double
+doubled r w = record { high = aimed r w; low = accumulator r (next_to (destination w)) }
+
+abbrev pub with_double : Registers → ℕ → Double → Outcome × Registers
+with_double r w x = (Next, moved (with_accumulator (with_accumulator r (destination w) x.high) (next_to (destination w)) x.low) 1)
+
+abbrev pub dlsh : Registers → ℕ → Outcome × Registers
+dlsh r w = with_double r w (halves (shifted_by_signed 32 (sourced r w % 256) (number (doubled r w))))
+
+abbrev pub dhxl : Registers → ℕ → Outcome × Registers
+dhxl r w = with_double r w (halves (shifted_left 32 (hex_places (source w)) (number (doubled r w))))
+
+abbrev pub dhxr : Registers → ℕ → Outcome × Registers
+dhxr r w = with_double r w (halves (shifted_right (hex_places (source w)) (number (doubled r w))))
+
+-- the zeros before the highest one of the source are counted onto the destination
+abbrev pub lob : Registers → ℕ → Outcome × Registers
+lob r w = loaded_with r w ((aimed r w + count_leading_zeros 16 (sourced r w)) % 65536)
+
+-- the same, and that one is taken away; of one accumulator no count is taken
+abbrev pub lrb : Registers → ℕ → Outcome × Registers
+lrb r w =
+    let q = cond (source w == destination w) r (with_accumulator r (destination w) ((aimed r w + count_leading_zeros 16 (sourced r w)) % 65536)) in
+    (Next, moved (with_accumulator q (source w) (without_leading_one (sourced r w))) 1)
+
+-- the ones of the source are counted onto the destination
+abbrev pub cob : Registers → ℕ → Outcome × Registers
+cob r w = loaded_with r w ((aimed r w + count_ones (sourced r w)) % 65536)
+
+abbrev pub hlv : Registers → ℕ → Outcome × Registers
+hlv r w = loaded_with r w (halved (aimed r w))
+
+-- the second word is the operand; it is fetched through the map
+abbrev pub second : Registers → Access ℕ
+second r = reading (moved r 1).pc
+
+abbrev pub loaded_past : Registers → ℕ → ℕ → Outcome × Registers
+loaded_past r w x = (Next, moved (with_accumulator r (destination w) x) 2)
+
+abbrev pub immediate : (ℕ → ℕ → ℕ) → Registers → ℕ → Effect
+immediate f r w = do
+  i ← second r
+  ret (loaded_past r w (f i (aimed r w)))
+
+abbrev pub added : ℕ → ℕ → ℕ
+added x y = (x + y) % 65536
 
 -- nothing is loaded into the map by a user
 abbrev pub lmp : Registers → Outcome × Registers
@@ -25,39 +254,47 @@ lmp r = (Next, moved r 1)
 abbrev pub syc : Registers → Outcome × Registers
 syc r = (Called, moved r 1)
 
+-- an I/O word is a device's, unless LEF is on
+abbrev pub input_output : Switches → Effect
+input_output s = cond s.lef (halt code) (halt device)
+
 abbrev pub operation : Switches → Registers → Operation → ℕ → Effect
-operation s r Jmp w = jmp Short s r w
-operation s r Jsr w = jsr Short s r w
-operation s r Isz w = counted raised_by_one Short s r w
-operation s r Dsz w = counted lowered_by_one Short s r w
-operation s r Lda w = lda Short s r w
-operation s r Sta w = sta Short s r w
-operation s r InputOutput w = input_output s r w
+operation s r Jmp w = jmp s r w
+operation s r Jsr w = jsr s r w
+operation s r Isz w = isz s r w
+operation s r Dsz w = dsz s r w
+operation s r Lda w = lda s r w
+operation s r Sta w = sta s r w
+operation s r InputOutput w = input_output s
 operation s r TwoAccumulator w = ret (two_accumulator r w)
-operation s r Ejmp w = jmp Extended s r w
-operation s r Ejsr w = jsr Extended s r w
-operation s r Eisz w = counted raised_by_one Extended s r w
-operation s r Edsz w = counted lowered_by_one Extended s r w
-operation s r Elda w = lda Extended s r w
-operation s r Esta w = sta Extended s r w
-operation s r Elef w = lef Extended s r w
-operation s r (Accumulator op) w = ret (altered r op w)
-operation s r (Immediate op) w = immediate r op w
-operation s r (Pointer op) w = by_pointer s r op w
-operation s r (Stack op) w = on_stack s r op w
+operation s r Adi w = ret (adi r w)
+operation s r Sbi w = ret (sbi r w)
+operation s r Dad w = ret (digit digit_added r w)
+operation s r Dsb w = ret (digit digit_subtracted r w)
+operation s r Ior w = ret (ior r w)
+operation s r Xor w = ret (xor r w)
+operation s r Anc w = ret (anc r w)
+operation s r Xch w = ret (xch r w)
+operation s r Sgt w = ret (sgt r w)
+operation s r Sge w = ret (sge r w)
+operation s r Lsh w = ret (lsh r w)
+operation s r Dlsh w = ret (dlsh r w)
+operation s r Hxl w = ret (hxl r w)
+operation s r Hxr w = ret (hxr r w)
+operation s r Dhxl w = ret (dhxl r w)
+operation s r Dhxr w = ret (dhxr r w)
+operation s r Lob w = ret (lob r w)
+operation s r Lrb w = ret (lrb r w)
+operation s r Cob w = ret (cob r w)
+operation s r Hlv w = ret (hlv r w)
+operation s r Iori w = immediate bit_or r w
+operation s r Xori w = immediate bit_xor r w
+operation s r Andi w = immediate bit_and r w
+operation s r Addi w = immediate added r w
 operation s r Lmp w = ret (lmp r)
 operation s r Syc w = ret (syc r)
-operation s r Xct w = halt execute
 operation s r Unlisted w = halt code
 
--- XCT: the word in its accumulator takes its place, and so on through at most n of them
-abbrev pub executes : ℕ → Bool
-executes w = fits (one 0o123370 Xct) w
-
-abbrev pub led_to : ℕ → Registers → ℕ → ℕ
-led_to zero r w = w
-led_to (suc n) r w = cond (executes w) (led_to n r (aimed r w)) w
-
--- the word w, fetched at the PC. A word that is still XCT after four accumulators would go on for ever
+-- the word w, fetched at the PC
 unfoldable pub instruction : Switches → Registers → ℕ → Effect
-instruction s r w = let x = led_to 4 r w in operation s r (decoded x) x
+instruction s r w = operation s r (decoded w) w

@@ -2,16 +2,12 @@
 
 pub mod denial;
 pub mod fault;
-pub mod operation;
 pub mod steps;
 pub mod stop;
 pub mod user;
 
 pub use denial::Denial;
 pub use fault::{Fault, Located, MapFault};
-pub use operation::{
-    AccumulatorOperation, Form, ImmediateOperation, Operation, PointerOperation, StackOperation,
-};
-pub use steps::{Outcome, Ran, Turn};
+pub use steps::{Operation, Outcome, Ran, Turn};
 pub use stop::{Stop, StopValues};
 pub use user::{Kind, Page, Registers, Switches, User, UserMap, Who};

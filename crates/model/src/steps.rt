@@ -1,5 +1,45 @@
 use crate::stop::Stop;
 
+/// What a word asks for. Its accumulators, address and options stay in the word.
+#[derive(Clone, Copy, PartialEq, Eq, Debug)]
+pub enum Operation {
+    Jmp,
+    Jsr,
+    Isz,
+    Dsz,
+    Lda,
+    Sta,
+    InputOutput,
+    TwoAccumulator,
+    Adi,
+    Sbi,
+    Dad,
+    Dsb,
+    Ior,
+    Xor,
+    Anc,
+    Xch,
+    Sgt,
+    Sge,
+    Lsh,
+    Dlsh,
+    Hxl,
+    Hxr,
+    Dhxl,
+    Dhxr,
+    Lob,
+    Lrb,
+    Cob,
+    Hlv,
+    Iori,
+    Xori,
+    Andi,
+    Addi,
+    Lmp,
+    Syc,
+    Unlisted,
+}
+
 /// What a completed instruction comes to: the program goes on, or it has called the supervisor.
 #[derive(Clone, Copy)]
 pub enum Outcome {

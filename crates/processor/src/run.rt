@@ -3,8 +3,8 @@
 ghost use Rattle.std.specs.Prelude.{◌≡◌, ℕ, ◌^◌, ◌<◌, ◌≤◌};
 ghost use Rattle.model.specs.Run.{advanced, runs};
 
+use addressing::mapped::fetch;
 use instructions::execution::carry_out;
-use mapping::access::fetch;
 use memory::Memory;
 use model::{Outcome, Ran, Registers, Stop, Turn, UserMap};
 

@@ -1,0 +1,11 @@
+use borrow.Author.Rules.{rules}
+use Rattle.model.specs.Access.{putting}
+use Rattle.addressing.proofs.mapped.put.Goals as goal
+
+pub returns-in-err-store : goal.returns-in-err-store
+unfolding putting
+returns-in-err-store g c = search rules
+
+pub returns : goal.returns
+unfolding putting
+returns g c = search rules
