@@ -1,5 +1,7 @@
 //! Pure functions on words of 16 bits.
 
+#![tactic(auto)]
+
 pub mod counts;
 pub mod digits;
 pub mod fields;

@@ -1,5 +1,7 @@
 //! The same program of A's on two machines: alone on one, beside a meddling program of B's on the other.
 
+#![tactic(auto)]
+
 use anyhow::anyhow;
 use machine::compare::{Difference, compare};
 use machine::{Ended, Held, Machine, Permit};

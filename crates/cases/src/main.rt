@@ -3,6 +3,8 @@
 //! A line `= NAME` begins a case, and its sheet is all that stands up to the next such line. A last line `~` is no
 //! part of the sheet, and neither is the newline before it: so a sheet may end without one.
 
+#![tactic(auto)]
+
 use std::io::{Read, Write};
 
 // Writes the report of the sheet, and empties it for the next.

@@ -1,7 +1,9 @@
 //! Checked core: a memory whose cells are kept as checked numbers, so that one flip in a cell does no harm.
 
+#![tactic(auto)]
+
 ghost use Rattle.std.specs.Prelude.{◌≡◌, ℕ, ◌<◌, true, false, is_ok, if◌then◌else◌, Ok, Err, vec_len, slice_index, slice_index_or, slice_set};
-ghost use Rattle.memory.specs.Cells.{Whole, whole, word as cell-word};
+ghost use Rattle.memory.specs.Cells.{Whole, whole, word as cell_word};
 ghost use Rattle.memory.specs.Answers.{reading, writing, written};
 ghost use Rattle.memory.specs.Makes.{outcome};
 ghost use Rattle.hamming.specs.Hamming.{mended, syndrome_of, word_in, lower, flipped};
@@ -73,7 +75,7 @@ impl Memory for CheckedCore {
     /// Leaves a sound number that holds the word and has no higher bits.
     fn write(&mut self, at: usize, value: u16) -> Result<(), MemoryFault>
         ensures answer { result ≡ writing (checked self.old.numbers.items) at }
-        ensures after { checked self.new.numbers.items ≡ written (checked self.old.numbers.items) at (cell-word value) }
+        ensures after { checked self.new.numbers.items ≡ written (checked self.old.numbers.items) at (cell_word value) }
         ensures leaves { is_ok result ≡ true → (n : ℕ) × Holds n value × (self.new.numbers.items ≡ slice_set self.old.numbers.items at n) }
         ensures keeps { is_ok result ≡ false → self.new.numbers.items ≡ self.old.numbers.items }
     {

@@ -1,5 +1,7 @@
 //! Worked points of the rules, shown of the definitions themselves.
 
+#![tactic(auto)]
+
 ghost use Rattle.std.specs.Prelude.{◌≡◌};
 ghost use Rattle.gauge.specs.Gauge.{Points};
 

@@ -1,5 +1,7 @@
 //! The checked number: 21 positions that hold a word and its checks, so that one flipped position is found.
 
+#![tactic(auto)]
+
 ghost use Rattle.std.specs.Prelude.{◌≡◌, ◌^◌, ◌<◌};
 ghost use Rattle.std.specs.Option.{SomeIff};
 ghost use Rattle.hamming.specs.Hamming.{syndrome_of, word_in, mended, MendedSound, FlipFound};

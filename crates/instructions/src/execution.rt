@@ -4,7 +4,7 @@
 ghost use Rattle.std.specs.Prelude.{◌≡◌, ℕ, ◌+◌, ◌%◌, ◌<◌};
 ghost use Rattle.model.specs.Access.{perform};
 ghost use Rattle.model.specs.Address.{moved};
-ghost use Rattle.model.specs.Step.{source, destination, jmp as jumping, jsr as calling, counted, lda as loading-one, sta as storing-one, two_accumulator, syc as asking, input_output, operation, instruction};
+ghost use Rattle.model.specs.Step.{source, destination, jmp as jumping, jsr as calling, counted, lda as loading_one, sta as storing_one, two_accumulator, syc as asking, input_output, operation, instruction};
 ghost use Rattle.model.specs.Run.{settle};
 
 use crate::accumulators::{
@@ -72,7 +72,7 @@ fn lda<M: Memory>(
     r: &mut Registers,
     word: u16,
 ) -> Result<Outcome, Fault>
-    ensures { (result, r.new, M.Memory.cells memory.new) ≡ settle r.old (perform map.now (M.Memory.cells memory.old) (loading-one map.now.switches r.old word)) }
+    ensures { (result, r.new, M.Memory.cells memory.new) ≡ settle r.old (perform map.now (M.Memory.cells memory.old) (loading_one map.now.switches r.old word)) }
 {
     let at = find(map, memory, r, word)?;
     let n = fetch(map, memory, at)?;
@@ -87,7 +87,7 @@ fn sta<M: Memory>(
     r: &mut Registers,
     word: u16,
 ) -> Result<Outcome, Fault>
-    ensures { (result, r.new, M.Memory.cells memory.new) ≡ settle r.old (perform map.now (M.Memory.cells memory.old) (storing-one map.now.switches r.old word)) }
+    ensures { (result, r.new, M.Memory.cells memory.new) ≡ settle r.old (perform map.now (M.Memory.cells memory.old) (storing_one map.now.switches r.old word)) }
 {
     let at = find(map, memory, r, word)?;
     put(map, memory, at, r.ac[destination_of(word)])?;

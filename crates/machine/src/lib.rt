@@ -1,5 +1,7 @@
 //! The machine that a host calls: two users over any memory.
 
+#![tactic(auto)]
+
 pub mod calls;
 pub mod compare;
 mod map_word;

@@ -1,7 +1,7 @@
 //! Map words. Bit 0 is the highest of the sixteen.
 
 ghost use Rattle.std.specs.Prelude.{◌≡◌, ℕ, ◌%◌, ◌<◌, not, ◌||◌, ◌==◌};
-ghost use Rattle.model.specs.Machine.{sense_of_word, user_by_bit, bit as bit-of};
+ghost use Rattle.model.specs.Machine.{sense_of_word, user_by_bit, bit as bit_of};
 ghost use Rattle.machine.specs.Calls.{meant, Small};
 
 use arithmetic::fields::{bits, low};
@@ -28,14 +28,14 @@ fn user_by(b: bool) -> Who
 
 // Bits 6-7 are 1, or they are 0 and bit 1 is 1.
 fn is_neither(w: u16) -> bool
-    ensures { result ≡ (bit-of w 256 || bit-of w 16384) }
+    ensures { result ≡ (bit_of w 256 || bit_of w 16384) }
 {
     bits(w, 8, 1) == 1 || bits(w, 14, 1) == 1
 }
 
 // Bit 10, 13, 14 or 15 is 1.
 fn is_unlisted(w: u16) -> bool
-    ensures { result ≡ (bit-of w 32 || not (w % 8 == 0)) }
+    ensures { result ≡ (bit_of w 32 || not (w % 8 == 0)) }
 {
     bits(w, 5, 1) == 1 || low(w, 3) != 0
 }

@@ -1,6 +1,8 @@
 //! The same calls on machines over three makes of memory: plain core, checked core in which every number has one
 //! position turned over, and a pair of a pair and a core. Then a spoiled cell.
 
+#![tactic(auto)]
+
 use anyhow::anyhow;
 use checked::CheckedCore;
 use hamming::encode;

@@ -1,5 +1,7 @@
 //! What a memory is: a row of cells, each a word or spoiled; and the makes of memory there are.
 
+#![tactic(auto)]
+
 pub mod fault;
 pub mod meaning;
 mod numbers;

@@ -1,5 +1,7 @@
 //! The machine of the rules: the values that it keeps and answers. What each call does is in `specs/`.
 
+#![tactic(auto)]
+
 pub mod denial;
 pub mod fault;
 pub mod steps;

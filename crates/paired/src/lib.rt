@@ -1,5 +1,7 @@
 //! An interleaved pair: two memories of equal size joined into one.
 
+#![tactic(auto)]
+
 ghost use Rattle.std.specs.Prelude.{◌≡◌, ◌/◌, ◌<◌, if◌then◌else◌, Ok, Err};
 ghost use Rattle.memory.specs.Makes.{outcome};
 ghost use Rattle.paired.specs.Pairs.{paired, interleaved, level};

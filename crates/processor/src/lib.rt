@@ -1,3 +1,5 @@
 //! Steps and runs, over any memory.
 
+#![tactic(auto)]
+
 pub mod run;

@@ -1,5 +1,7 @@
 //! The text of a sheet, read row by row.
 
+#![tactic(auto)]
+
 pub mod row;
 pub mod text;
 

@@ -1,5 +1,7 @@
 //! A search for spoiled cells.
 
+#![tactic(auto)]
+
 ghost use Rattle.std.specs.Prelude.{◌≡◌};
 ghost use Rattle.surveying.specs.Survey.{Surveyed};
 

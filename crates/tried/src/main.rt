@@ -16,6 +16,8 @@
 //!
 //! What differs in a case that does not agree is told on standard error.
 
+#![tactic(auto)]
+
 mod recorded;
 
 use anyhow::anyhow;

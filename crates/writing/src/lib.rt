@@ -1,5 +1,7 @@
 //! Numbers and lines in octal, written as bytes.
 
+#![tactic(auto)]
+
 pub mod lines;
 
 pub use lines::put_line;
