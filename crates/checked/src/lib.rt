@@ -47,7 +47,7 @@ impl Memory for CheckedCore {
         let x : ℕ = slice_index_or m.numbers.items n 0 in
         let a : word_in (lower x) < 65536 = word_lt (lower x) in
         let b : word_in (flipped (lower x) (syndrome_of x)) < 65536 = word_lt (flipped (lower x) (syndrome_of x)) in
-        Prim.grind (arith, needs) };
+        Prim.grind (arith, rules) };
 
     fn size(&self) -> usize {
         self.numbers.len()

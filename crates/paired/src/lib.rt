@@ -46,7 +46,7 @@ impl<F: Memory, S: Memory> Memory for Pair<F, S> {
     ghost fits = { λ m n w e.
         let f : (F.Memory.cells m.first).at (n / 2) ≡ word w → w < 65536 = F.Memory.fits m.first (n / 2) w in
         let s : (S.Memory.cells m.second).at (n / 2) ≡ word w → w < 65536 = S.Memory.fits m.second (n / 2) w in
-        Prim.grind (arith, needs) };
+        Prim.grind (arith, rules) };
 
     fn size(&self) -> usize {
         2 * self.first.size().min(self.second.size()).min(MOST)

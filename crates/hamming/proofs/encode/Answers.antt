@@ -10,7 +10,7 @@ returns c =
     let low = c.syndrome-s.ensures.low in
     let is = c.syndrome-s.ensures.is in
     let held : word_in (spread b) ≡ c.args.w =
-    ap (λ (x : ℕ). word_in (spread x)) (c.from-bits.ensures ∙ c.reverse-bits.ensures) ∙ spreads c.args.w (search rules) in
+    ap (λ (x : ℕ). word_in (spread x)) (c.from-bits.ensures ∙ c.reverse_bits.ensures) ∙ spreads c.args.w (search rules) in
     record {
       sound = search (rules, coded_syndrome b s low is);
       below = search (rules, coded_lt b s low is);

@@ -4,8 +4,8 @@ use Prim.Native.Nat.{◌-◌}
 use Rattle.addressing.proofs.Turns.{one_more}
 use Rattle.addressing.proofs.address.resolve.Goals as goal
 
-pub returns-in-err-w : goal.returns-in-err-w
-returns-in-err-w g c = let e = one_more c.args.limit c.loop.counter (omega arith) in grind (arith, e)
+pub returns-in_err-w : goal.returns-in_err-w
+returns-in_err-w g c = let e = one_more c.args.limit c.loop.counter (omega arith) in grind (arith, e)
 
 pub returns-then-w-lt32768 : goal.returns-then-w-lt32768
 returns-then-w-lt32768 g c = let e = one_more c.args.limit c.loop.counter (omega arith) in grind (arith, e)

@@ -7,13 +7,13 @@ pub returns-then-bits-eq1 : goal.returns-then-bits-eq1
 unfolding sense_of_word
 returns-then-bits-eq1 c = record { meaning = grind (arith, nat_tests); small = omega arith }
 
-pub returns-then-is-neither : goal.returns-then-is-neither
+pub returns-then-is_neither : goal.returns-then-is_neither
 unfolding sense_of_word
-returns-then-is-neither c = record { meaning = grind (arith, nat_tests); small = tt }
+returns-then-is_neither c = record { meaning = grind (arith, nat_tests); small = tt }
 
-pub returns-then-is-unlisted : goal.returns-then-is-unlisted
+pub returns-then-is_unlisted : goal.returns-then-is_unlisted
 unfolding sense_of_word
-returns-then-is-unlisted c = record { meaning = grind (arith, nat_tests); small = tt }
+returns-then-is_unlisted c = record { meaning = grind (arith, nat_tests); small = tt }
 
 pub returns : goal.returns
 unfolding sense_of_word

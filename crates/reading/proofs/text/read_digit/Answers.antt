@@ -9,6 +9,6 @@ returns c =
     let e = first_rest c.args.text.now 0 (omega (arith, ltb-false)) in
     record { value = grind (arith, e); bound = search rules; shorter = grind (arith, e) }
 
-pub returns-in-default : goal.returns-in-default
+pub returns-in_default : goal.returns-in_default
 unfolding digit
-returns-in-default c = search rules
+returns-in_default c = search rules

@@ -2,9 +2,9 @@ use Rattle.std.proofs.Common.{◌≡◌, suc, ◌+◌, ◌-◌, ◌<◌, ◌≤�
 use Rattle.reading.specs.Read.{number}
 use Rattle.reading.proofs.text.read_number.Goals as goal
 
-pub returns-then-value-gt-BEFORE-LAST : goal.returns-then-value-gt-BEFORE-LAST
+pub returns-then-value-gt-BEFORE_LAST : goal.returns-then-value-gt-BEFORE_LAST
 unfolding number
-returns-then-value-gt-BEFORE-LAST c =
+returns-then-value-gt-BEFORE_LAST c =
     let k : 5 - c.loop.counter ≡ suc (5 - (c.loop.counter + 1)) = omega arith in
     grind (arith, k)
 
@@ -19,12 +19,12 @@ returns c =
     let k : 5 - c.loop.counter ≡ 0 = omega arith in
     grind (arith, k)
 
-pub returns-in-default : goal.returns-in-default
+pub returns-in_default : goal.returns-in_default
 unfolding number
-returns-in-default c =
+returns-in_default c =
     let k : 5 - c.loop.counter ≡ suc (5 - (c.loop.counter + 1)) = omega arith in
     grind (arith, k)
 
-pub returns-in-err-value : goal.returns-in-err-value
+pub returns-in_err-value : goal.returns-in_err-value
 unfolding number
-returns-in-err-value c = search rules
+returns-in_err-value c = search rules

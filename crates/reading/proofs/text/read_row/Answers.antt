@@ -3,13 +3,13 @@ use Rattle.reading.specs.Read.{row}
 use Rattle.reading.proofs.Spelt.{reads_what_is_written}
 use Rattle.reading.proofs.text.read_row.Goals as goal
 
-pub returns-in-err-f : goal.returns-in-err-f
+pub returns-in_err-f : goal.returns-in_err-f
 unfolding row
-returns-in-err-f c = record { value = search rules; shorter = search rules; law = reads_what_is_written }
+returns-in_err-f c = record { value = search rules; shorter = search rules; law = reads_what_is_written }
 
-pub returns-in-err-meaning : goal.returns-in-err-meaning
+pub returns-in_err-meaning : goal.returns-in_err-meaning
 unfolding row
-returns-in-err-meaning c = record { value = search rules; shorter = search rules; law = reads_what_is_written }
+returns-in_err-meaning c = record { value = search rules; shorter = search rules; law = reads_what_is_written }
 
 pub returns : goal.returns
 unfolding row

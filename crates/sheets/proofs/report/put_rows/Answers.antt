@@ -4,8 +4,8 @@ use Rattle.machine.specs.Machine.{modelled}
 use Rattle.sheets.proofs.Rows.{rows_none}
 use Rattle.sheets.proofs.report.put_rows.Goals as goal
 
-pub returns-in-default : goal.returns-in-default
-returns-in-default g c =
+pub returns-in_default : goal.returns-in_default
+returns-in_default g c =
     let k : length c.args.text.now + 1 - c.loop-rest.number ≡ suc (length c.args.text.now - c.loop-rest.number) = search rules in
     grind (arith, k)
 

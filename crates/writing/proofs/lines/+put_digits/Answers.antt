@@ -3,8 +3,8 @@ use Rattle.std.proofs.lemmas.List.{append-nil}
 use Rattle.writing.proofs.Figures.{figures_step, figures_none}
 use Rattle.writing.proofs.lines.+put_digits.Goals as goal
 
-pub returns-in-ok-push : goal.returns-in-ok-push
-returns-in-ok-push t c =
+pub returns-in_ok-push : goal.returns-in_ok-push
+returns-in_ok-push t c =
     let e = figures_step c.args.n (omega arith) in
     search (rules, e, append_assoc)
 

@@ -2,10 +2,10 @@ use Rattle.std.proofs.Common.{rules}
 use Rattle.writing.specs.Write.{octal}
 use Rattle.writing.proofs.lines.put_octal.Goals as goal
 
-pub returns-in-ok-push : goal.returns-in-ok-push
+pub returns-in_ok-push : goal.returns-in_ok-push
 unfolding octal
-returns-in-ok-push c = search rules
+returns-in_ok-push c = search rules
 
-pub returns-in-ok-put-digits : goal.returns-in-ok-put-digits
+pub returns-in_ok-put_digits : goal.returns-in_ok-put_digits
 unfolding octal
-returns-in-ok-put-digits c = search rules
+returns-in_ok-put_digits c = search rules

@@ -6,12 +6,12 @@ use Rattle.machine.specs.Machine.{modelled}
 use Rattle.machine.proofs.Answered.{get_did}
 use Rattle.machine.proofs.calls.Machine.get.Goals as goal
 
-pub returns-in-err-read : goal.returns-in-err-read
-returns-in-err-read g c =
+pub returns-in_err-read : goal.returns-in_err-read
+returns-in_err-read g c =
     let e : read c.from-residual.result ≡ after_read c.read.result = search rules in
     made _ _ _ _ (get_did (modelled g.M.Memory.cells c.args.self.now) c.args.at c.read.result _ _ e c.read.ensures.answer c.read.ensures.after)
 
 pub returns : goal.returns
 returns g c =
-    let e : got c.in-ok-read.field-0 ≡ after_read c.read.result = search rules in
+    let e : got c.in_ok-read.field-0 ≡ after_read c.read.result = search rules in
     made _ _ _ _ (get_did (modelled g.M.Memory.cells c.args.self.now) c.args.at c.read.result _ _ e c.read.ensures.answer c.read.ensures.after)

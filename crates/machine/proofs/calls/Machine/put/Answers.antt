@@ -6,8 +6,8 @@ use Rattle.machine.specs.Machine.{modelled}
 use Rattle.machine.proofs.Answered.{put_did}
 use Rattle.machine.proofs.calls.Machine.put.Goals as goal
 
-pub returns-in-err-write : goal.returns-in-err-write
-returns-in-err-write g c =
+pub returns-in_err-write : goal.returns-in_err-write
+returns-in_err-write g c =
     let e : answered c.from-residual.result ≡ after_write c.write.result = search rules in
     made _ _ _ _ (put_did (modelled g.M.Memory.cells c.args.self.now) c.args.at c.args.word c.write.result _ _ e c.write.ensures.answer c.write.ensures.after)
 
