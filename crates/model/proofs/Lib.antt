@@ -1,3 +1,4 @@
+pub mod Equality
 pub mod Rows
 pub mod Locality
 pub mod Acts

@@ -1,4 +1,5 @@
 pub mod Faults
+pub mod Equality
 pub mod Numbers
 pub mod Access
 pub mod Address

@@ -1,4 +1,5 @@
 ghost use Rattle.std.specs.Prelude.{◌≡◌, Decides};
+ghost use Rattle.model.specs.Equality.{registers_eq, map_eq, map_laws};
 ghost use Rattle.std.specs.Cmp.Rules.{comparing};
 ghost use Rattle.std.proofs.Common.{rules};
 
@@ -66,11 +67,14 @@ fn same_words(x: &[u16; 4], y: &[u16; 4]) -> bool
 }
 
 impl PartialEq for Registers {
-    ghost equals = { λ x y r. Decides r (x ≡ y) };
+    ghost eq = { registers_eq };
 
     ghost laws = { Prim.search (comparing, rules) };
 
-    fn eq(&self, other: &Registers) -> bool {
+    fn eq(&self, other: &Registers) -> bool
+        ensures answer { result ≡ registers_eq self.now other.now }
+        ensures same { Decides result (self.now ≡ other.now) }
+    {
         same_words(&self.ac, &other.ac) && self.carry == other.carry && self.pc == other.pc
     }
 }
@@ -87,11 +91,14 @@ fn same_pages(x: &[Option<Page>; 32], y: &[Option<Page>; 32]) -> bool
 }
 
 impl PartialEq for UserMap {
-    ghost equals = { λ x y r. Decides r (x ≡ y) };
+    ghost eq = { map_eq };
 
-    ghost laws = { Prim.search (comparing, rules) };
+    ghost laws = { map_laws };
 
-    fn eq(&self, other: &UserMap) -> bool {
+    fn eq(&self, other: &UserMap) -> bool
+        ensures answer { result ≡ map_eq self.now other.now }
+        ensures same { Decides result (self.now ≡ other.now) }
+    {
         same_pages(&self.entries, &other.entries) && self.switches == other.switches
     }
 }
