@@ -1,11 +1,11 @@
 -- The worked points, each by computing.
-use mathlib.Core.Path.{◌≡◌, refl, ap, sym, ◌∙◌}
-use mathlib.Core.Bool.{Bool, true, false, not, cond}
-use Prim.Native.Nat.{ℕ, ◌+◌, ◌/◌, ◌%◌, ◌<◌, ◌≤◌}
+use mathlib.Core.Path.{◌≡◌, refl, ap}
+use mathlib.Core.Bool.{Bool, true, false, not}
+use Prim.Native.Nat.{ℕ, ◌+◌, ◌%◌, ◌<◌, ◌≤◌}
 use lib.Count.{count_leading_zeros}
 use native.Mathlib.Omega.{arith}
 use Rattle.memory.specs.Cells.{word, spoiled}
-use Rattle.hamming.specs.Hamming.{held, syndrome_to, syndrome_of, bits_at, word_in, lower, flipped}
+use Rattle.hamming.specs.Hamming.{held, syndrome_to, syndrome_of, bits_at, word_in}
 use Rattle.arithmetic.specs.Digits.{digit_added, digit_subtracted}
 use Rattle.arithmetic.specs.Shifts.{shifted_by_signed}
 use Rattle.arithmetic.specs.Signed.{halved}

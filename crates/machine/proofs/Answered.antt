@@ -6,7 +6,7 @@ use Rattle.memory.specs.declared.fault.MemoryFault.{MemoryFault}
 use Rattle.model.specs.declared.denial.Denial.TheVariants as denial
 use Rattle.model.specs.declared.user.Who.{Who}
 use Rattle.model.specs.declared.user.Who.TheVariants.{A, B}
-use Rattle.model.specs.Machine.{State, Answer, denied, Call, Sense, of, Deed, unlisted, sense, carried, put, get, after_read, after_write}
+use Rattle.model.specs.Machine.{State, Answer, denied, Call, of, unlisted, sense, put, get, after_read, after_write}
 use Rattle.model.specs.Laws.{Did}
 use Rattle.model.proofs.Pasts.{did_sense}
 

@@ -1,5 +1,5 @@
 -- What a read and a write of a memory answer, and what they leave.
-use Rattle.std.specs.Prelude.{◌≡◌, ℕ, ◌<◌, Bool, true, false, cond, Ok, Err, Result, nat_lt}
+use Rattle.std.specs.Prelude.{ℕ, cond, Ok, Err, Result, nat_lt}
 use Rattle.memory.specs.Cells.{Cell, word, spoiled, Row, put}
 use Rattle.memory.specs.declared.fault.MemoryFault.{MemoryFault}
 use Rattle.memory.specs.declared.fault.MemoryFault.TheVariants.{Range, Spoiled}

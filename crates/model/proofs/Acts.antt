@@ -1,5 +1,5 @@
 -- What one call of a user's reads and alters, and what it keeps.
-use Rattle.std.proofs.Common.{◌≡◌, ℕ, zero, suc, ◌/◌, ◌<◌, Bool, true, false, cond, ◌&&◌, eqb, ltb, List, [], ◌∷◌, get_or, Some, None, Option, sym, refl, ap, ◌∙◌, subst, ap₂, true≢false, ltb-true}
+use Rattle.std.proofs.Common.{◌≡◌, ℕ, ◌/◌, ◌<◌, Bool, true, false, ◌&&◌, eqb, ltb, get_or, Some, None, Option, sym, refl, ap, subst, ap₂, ltb-true}
 use mathlib.Core.Bool.{false≢true}
 use Rattle.memory.specs.Cells.{Row}
 use Rattle.model.specs.declared.user.Kind.{Kind}
@@ -7,12 +7,10 @@ use Rattle.model.specs.declared.user.Kind.TheVariants.{Held, Ready}
 use Rattle.model.specs.declared.user.Page.{Page}
 use Rattle.model.specs.declared.steps.Ran.{Ran}
 use Rattle.model.specs.declared.user.Registers.{Registers}
-use Rattle.model.specs.declared.user.Switches.{Switches}
 use Rattle.model.specs.declared.user.User.{User}
 use Rattle.model.specs.declared.user.Who.{Who}
-use Rattle.model.specs.Machine.{Answer, granted, ran, Acted, Deed, block, status, unlisted, start, run, show, act, mapped, started, run_by, kind_after, rested, with_entry, readied}
-use Rattle.model.specs.Run.{runs}
-use Rattle.model.specs.Isolation.{Within, Fenced, MapWithin, Same, Owned, Guest}
+use Rattle.model.specs.Machine.{ran, Acted, Deed, block, status, unlisted, start, run, show, act, started, run_by, kind_after, rested}
+use Rattle.model.specs.Isolation.{Within, Fenced, Same, Owned, Guest}
 use Rattle.model.proofs.Rows.{cond_rel, cond_if, same_refl, each_set}
 use Rattle.model.proofs.Locality.{runs_local, runs_frame}
 

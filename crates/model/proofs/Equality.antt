@@ -1,9 +1,23 @@
 -- The tests of equality that go part by part are right.
-use Rattle.std.proofs.Common.{◌≡◌, ℕ, Bool, true, false, ◌&&◌, List, Some, None, Option, refl, sym, ap}
+use Rattle.std.proofs.Common.{not, ◌≡◌, Bool, true, false, ◌&&◌, Some, None, Option, refl, ap}
 use Rattle.std.specs.Bool.{Decides}
 use Rattle.std.specs.Cmp.{unsigned_Decides, booleans_Decides}
-use Rattle.std.specs.Cmp.Lexicographic.{pointwise, pointwise_decides}
+use Rattle.std.specs.Cmp.Lexicographic.{pointwise_decides}
 use Rattle.std.specs.Option.{option_eq}
+use Rattle.memory.specs.contracts.fault.MemoryFaultPartialEq
+use Rattle.memory.specs.declared.fault.MemoryFault.{MemoryFault}
+use Rattle.memory.specs.declared.fault.MemoryFault.TheVariants.{Range, Spoiled}
+use Rattle.model.specs.contracts.fault.LocatedPartialEq
+use Rattle.model.specs.contracts.fault.FaultPartialEq
+use Rattle.model.specs.contracts.stop.StopPartialEq
+use Rattle.model.specs.contracts.user.KindPartialEq
+use Rattle.model.specs.declared.fault.Fault.{Fault}
+use Rattle.model.specs.declared.fault.Fault.TheVariants.{Validity, Protected, Memory, Chain, Device, Stack, Code, Execute}
+use Rattle.model.specs.declared.fault.Located.{Located}
+use Rattle.model.specs.declared.stop.Stop.{Stop}
+use Rattle.model.specs.declared.stop.Stop.TheVariants.{Spent, Call, Faulted}
+use Rattle.model.specs.declared.user.Kind.{Kind}
+use Rattle.model.specs.declared.user.Kind.TheVariants.{Held, Ready}
 use Rattle.model.specs.declared.user.Page.{Page}
 use Rattle.model.specs.declared.user.Registers.{Registers}
 use Rattle.model.specs.declared.user.Switches.{Switches}
@@ -50,3 +64,56 @@ map_decides x y =
     (both _ _ (pointwise_decides (option_decides page_decides) x.entries y.entries) (switches_decides x.switches y.switches))
     (λ p. λ i. record { entries = p.0 i; switches = p.1 i })
     (λ e. (ap (λ (r : UserMap). r.entries) e, ap (λ (r : UserMap). r.switches) e))
+
+-- ---- the tests that a derive makes
+
+pub kind_decides : (x y : Kind) → Decides ((KindPartialEq.TheImpl.ghosts).eq x y) (x ≡ y)
+kind_decides Held Held = (λ e. refl, λ e. refl)
+kind_decides Ready Ready = (λ e. refl, λ e. refl)
+kind_decides x y = (λ e. absurd (cc e), λ e. absurd (cc e))
+
+memory_fault_decides : (x y : MemoryFault) → Decides ((MemoryFaultPartialEq.TheImpl.ghosts).eq x y) (x ≡ y)
+memory_fault_decides Range Range = (λ e. refl, λ e. refl)
+memory_fault_decides Spoiled Spoiled = (λ e. refl, λ e. refl)
+memory_fault_decides x y = (λ e. absurd (cc e), λ e. absurd (cc e))
+
+located_decides : (x y : Located) → Decides ((LocatedPartialEq.TheImpl.ghosts).eq x y) (x ≡ y)
+located_decides x y =
+    as_well
+    (both _ _ (memory_fault_decides x.cause y.cause) (both _ _ (unsigned_Decides x.physical y.physical) (unsigned_Decides x.logical y.logical)))
+    (λ p. λ i. record { cause = p.0 i; physical = p.1.0 i; logical = p.1.1 i })
+    (λ e. (ap (λ (l : Located). l.cause) e, (ap (λ (l : Located). l.physical) e, ap (λ (l : Located). l.logical) e)))
+
+fault_decides : (x y : Fault) → Decides ((FaultPartialEq.TheImpl.ghosts).eq x y) (x ≡ y)
+fault_decides (Validity a) (Validity b) = as_well (unsigned_Decides a b) (λ e. ap Validity e) (λ e. cc e)
+fault_decides (Protected a) (Protected b) = as_well (unsigned_Decides a b) (λ e. ap Protected e) (λ e. cc e)
+fault_decides (Memory a) (Memory b) = as_well (located_decides a b) (λ e. ap Memory e) (λ e. cc e)
+fault_decides (Chain a) (Chain b) = as_well (unsigned_Decides a b) (λ e. ap Chain e) (λ e. cc e)
+fault_decides Device Device = (λ e. refl, λ e. refl)
+fault_decides Stack Stack = (λ e. refl, λ e. refl)
+fault_decides Code Code = (λ e. refl, λ e. refl)
+fault_decides Execute Execute = (λ e. refl, λ e. refl)
+fault_decides x y = (λ e. absurd (cc e), λ e. absurd (cc e))
+
+stop_decides : (x y : Stop) → Decides ((StopPartialEq.TheImpl.ghosts).eq x y) (x ≡ y)
+stop_decides (Spent a) (Spent b) = as_well (unsigned_Decides a b) (λ e. ap Spent e) (λ e. cc e)
+stop_decides (Call a w) (Call b v) =
+    as_well (both _ _ (unsigned_Decides a b) (unsigned_Decides w v)) (λ p. λ i. Call (p.0 i) (p.1 i)) (λ e. (cc e, cc e))
+stop_decides (Faulted a w f) (Faulted b v g) =
+    as_well
+    (both _ _ (unsigned_Decides a b) (both _ _ (unsigned_Decides w v) (fault_decides f g)))
+    (λ p. λ i. Faulted (p.0 i) (p.1.0 i) (p.1.1 i))
+    (λ e. (cc e, (cc e, cc e)))
+stop_decides x y = (λ e. absurd (cc e), λ e. absurd (cc e))
+
+pub latest_decides : (x y : Option Stop) → Decides (option_eq (λ (s t : Stop). (StopPartialEq.TheImpl.ghosts).eq s t) x y) (x ≡ y)
+latest_decides = option_decides stop_decides
+
+-- ---- what an arm of `if x != y` knows
+
+pub not_differing : {P : Type 0} {e r : Bool} → Decides e P → r ≡ not e → r ≡ false → P
+not_differing {e = true} d is f = d.0 refl
+not_differing {e = false} d is f = absurd (cc (is, f))
+
+pub differing : {P : Type 0} {e r : Bool} → Decides e P → r ≡ not e → r ≡ true → P → ⊥
+differing {e = e} d is t p = let one : e ≡ true = d.1 p in cc (is, t, one)

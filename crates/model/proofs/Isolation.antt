@@ -1,13 +1,13 @@
 -- The agreement: what a user's calls come to rests on that user's calls and blocks alone.
-use Rattle.std.proofs.Common.{◌≡◌, ℕ, zero, suc, ◌/◌, ◌<◌, Bool, true, false, cond, ◌&&◌, ltb, List, [], ◌∷◌, get_or, replicate, Some, None, Option, sym, refl, ap, ◌∙◌, subst, ap₂, subst₂, true≢false, lt-ltb}
+use Rattle.std.proofs.Common.{◌≡◌, ℕ, zero, suc, ◌/◌, ◌<◌, Bool, true, false, ◌&&◌, ltb, List, [], ◌∷◌, get_or, replicate, None, sym, refl, ap, ◌∙◌, subst, ap₂, subst₂, true≢false, lt-ltb}
 use mathlib.Core.Bool.{false≢true}
 use Rattle.memory.specs.Cells.{Row, word}
-use Rattle.memory.specs.Answers.{reading, writing, written}
+use Rattle.memory.specs.Answers.{written}
 use Rattle.model.specs.declared.user.User.{User}
 use Rattle.model.specs.declared.user.Who.{Who}
 use Rattle.model.specs.declared.user.Who.TheVariants.{A, B}
-use Rattle.model.specs.Machine.{Answer, Acted, Deed, act, Call, Sense, of, poke, peek, wordless, sense, State, user_of, carried, call, after_read, after_write, replay, fresh, new_user}
-use Rattle.model.specs.Isolation.{Within, Fenced, Same, Alike, Owned, Guest, FairSense, Each, Fair, own_sense, own, in_blocks, pick, calls_of, answers_to, Past, Agreement}
+use Rattle.model.specs.Machine.{Answer, Deed, act, Call, Sense, of, poke, peek, wordless, sense, State, user_of, carried, call, after_read, after_write, replay, fresh}
+use Rattle.model.specs.Isolation.{Within, Fenced, Same, Alike, FairSense, Fair, own_sense, own, in_blocks, pick, calls_of, answers_to, Agreement}
 use Rattle.model.proofs.Rows.{cond_if, same_refl, same_sym, same_trans, same_reading, same_writing, same_written, same_apart}
 use Rattle.model.proofs.Acts.{AllWithin, Agree, act_local, act_frame, act_size, act_within, Guarded, guarded_fenced, act_guarded}
 

@@ -1,5 +1,5 @@
 -- The laws over any state and call.
-use Rattle.std.proofs.Common.{◌≡◌, ℕ, zero, suc, ◌+◌, ◌/◌, ◌<◌, ◌≤◌, Bool, true, false, cond, ◌&&◌, eqb, ltb, Ok, Err, Result, sym, refl, ap, ◌∙◌, subst, subst₂, arith}
+use Rattle.std.proofs.Common.{◌≡◌, ℕ, zero, suc, ◌+◌, ◌/◌, ◌≤◌, Bool, true, false, cond, ◌&&◌, eqb, ltb, Ok, Err, Result, refl, arith}
 use Rattle.memory.specs.Cells.{Row, put, word}
 use Rattle.memory.specs.Answers as memory
 use Rattle.memory.specs.declared.fault.MemoryFault.{MemoryFault}

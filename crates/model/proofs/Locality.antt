@@ -1,5 +1,5 @@
 -- What a step, and a run of steps, of a user can read and alter.
-use Rattle.std.proofs.Common.{◌≡◌, ℕ, zero, suc, ◌+◌, ◌/◌, ◌%◌, ◌<◌, Bool, true, false, cond, ◌&&◌, get_or, Some, None, Ok, Err, Option, Result, sym, refl, ap, ◌∙◌, subst, subst₂, true≢false, arith}
+use Rattle.std.proofs.Common.{◌≡◌, ℕ, zero, suc, ◌+◌, ◌/◌, ◌%◌, Bool, true, ◌&&◌, Some, None, Ok, Err, Option, Result, sym, refl, ap, ◌∙◌, subst, subst₂, true≢false, arith}
 use Rattle.memory.specs.Cells.{Row, word}
 use Rattle.memory.specs.declared.fault.MemoryFault.{MemoryFault}
 use Rattle.model.specs.declared.fault.Fault.{Fault}
@@ -17,7 +17,7 @@ use Rattle.model.specs.Step.{instruction}
 use Rattle.model.specs.Run.{settle, turned, with_word, executed, advanced, settled, runs}
 use Rattle.model.specs.Laws.{Locality, Frame}
 use Rattle.model.specs.Isolation.{Within, Fenced, MapWithin, MapFenced, Same}
-use Rattle.model.proofs.Rows.{cond_rel, cond_if, same_refl, same_sym, same_trans, same_reading, same_writing, same_written, same_apart}
+use Rattle.model.proofs.Rows.{cond_rel, cond_if, same_refl, same_trans, same_reading, same_writing, same_written, same_apart}
 
 pub placed_block : (p : Page) (a : ℕ) → placed p a / 1024 ≡ p.block
 placed_block p a = omega arith

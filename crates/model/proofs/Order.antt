@@ -1,5 +1,5 @@
 -- Along any past every entry leads inside the memory, so that a memory stop is by a spoiled cell.
-use Rattle.std.proofs.Common.{◌≡◌, ℕ, zero, suc, ◌+◌, ◌*◌, ◌/◌, ◌%◌, ◌<◌, ◌≤◌, Bool, true, false, cond, ◌&&◌, eqb, ltb, List, [], ◌∷◌, get_or, Some, None, Ok, Err, Option, Result, sym, refl, ap, ◌∙◌, subst, arith, ltb-true, lt-ltb}
+use Rattle.std.proofs.Common.{◌≡◌, ℕ, zero, suc, ◌+◌, ◌/◌, ◌%◌, ◌<◌, Bool, false, cond, ◌&&◌, eqb, ltb, List, [], ◌∷◌, get_or, Some, None, Ok, Err, Option, Result, sym, refl, ap, ◌∙◌, subst, arith, ltb-true, lt-ltb}
 use mathlib.Core.Bool.{false≢true}
 use Rattle.memory.specs.Cells.{Cell, Row, word, spoiled}
 use Rattle.memory.specs.Answers as memory
@@ -30,8 +30,8 @@ use Rattle.model.specs.Access.{Access, ret, halt, reading, writing, ◌>>=◌, p
 use Rattle.model.specs.Step.{instruction}
 use Rattle.model.specs.Run.{settle, turned, with_word, executed, advanced, settled, runs}
 use Rattle.model.specs.Machine.{Answer, Acted, Deed, block, status, unlisted, start, run, show, act, started, run_by, Call, Sense, of, poke, peek, wordless, sense, State, after_read, after_write, carried, call, replay, fresh}
-use Rattle.model.specs.Isolation.{Within, Fenced, MapWithin, Owned, Past}
-use Rattle.model.specs.Laws.{Inside, Lodged, SpoiledOnly, All, Orderly, Order}
+use Rattle.model.specs.Isolation.{Within, Fenced, MapWithin, Owned}
+use Rattle.model.specs.Laws.{Inside, SpoiledOnly, All, Order}
 use Rattle.model.proofs.Rows.{cond_if}
 use Rattle.model.proofs.Locality.{perform_frame, advanced_frame}
 use Rattle.model.proofs.Acts.{AllWithin, act_size, act_within}

@@ -4,7 +4,6 @@ use Rattle.memory.specs.Cells.{Row}
 use Rattle.model.specs.declared.user.User.{User}
 use Rattle.model.specs.declared.user.Who.TheVariants.{A, B}
 use Rattle.model.specs.Machine.{Answer, Call, Deed, Sense, of, State, act, sense, carried, call, replay, fresh}
-use Rattle.model.specs.Isolation.{Past}
 use Rattle.model.specs.Laws.{Did, Acts, Continues, Happens, IfDenied, RunBounded, Stepwise}
 use Rattle.model.proofs.Laws.{denied_unchanged, run_bounded}
 use Rattle.model.proofs.Stepwise.{stepwise}

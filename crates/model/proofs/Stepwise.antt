@@ -1,12 +1,11 @@
 -- A run is completed steps, one after the other, and then its stop.
-use Rattle.std.proofs.Common.{◌≡◌, ℕ, zero, suc, ◌+◌, ◌<◌, Ok, Err, Result, sym, refl, ap, ◌∙◌, subst, arith}
+use Rattle.std.proofs.Common.{◌≡◌, ℕ, zero, suc, ◌+◌, ◌<◌, Ok, Err, refl, ap, ◌∙◌, arith}
 use Rattle.memory.specs.Cells.{Row}
 use Rattle.model.specs.declared.steps.Outcome.{Outcome}
 use Rattle.model.specs.declared.steps.Outcome.TheVariants.{Next, Called}
 use Rattle.model.specs.declared.steps.Ran.{Ran}
 use Rattle.model.specs.declared.steps.Turn.{Turn}
 use Rattle.model.specs.declared.steps.Turn.TheVariants.{Goes, Calls, Stops}
-use Rattle.model.specs.declared.stop.Stop.{Stop}
 use Rattle.model.specs.declared.stop.Stop.TheVariants as stop
 use Rattle.model.specs.declared.user.Kind.{Kind}
 use Rattle.model.specs.declared.user.Kind.TheVariants.{Held, Ready}
@@ -19,7 +18,7 @@ use Rattle.model.specs.Access.{Done, perform, reading}
 use Rattle.model.specs.Step.{instruction}
 use Rattle.model.specs.Run.{settle, turned, with_word, executed, advanced, settled, runs}
 use Rattle.model.specs.Machine.{Call, State, run_by, call}
-use Rattle.model.specs.Laws.{StepTo, Completed, RunLaw, spent, called, stopped, RanBy, Stepwise}
+use Rattle.model.specs.Laws.{Completed, RunLaw, spent, called, stopped, RanBy, Stepwise}
 
 -- ---- a step that is not completed leaves the registers
 abbrev Kept : Registers → Turn × Registers × Row → Type 0

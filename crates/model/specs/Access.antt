@@ -1,5 +1,5 @@
 -- A step of a user program, by what it asks of the user's mapped memory; and how the map carries that out.
-use Rattle.std.specs.Prelude.{ℕ, ◌+◌, ◌*◌, ◌/◌, ◌%◌, Bool, true, false, cond, ◌&&◌, Some, None, Ok, Err, Option, Result, slice_index_or}
+use Rattle.std.specs.Prelude.{ℕ, ◌+◌, ◌*◌, ◌/◌, ◌%◌, Bool, cond, ◌&&◌, Some, None, Ok, Err, Option, Result, slice_index_or}
 use Rattle.memory.specs.Cells.{Row, word}
 use Rattle.memory.specs.Answers as memory
 use Rattle.model.specs.declared.fault.Fault.{Fault}

@@ -1,11 +1,11 @@
 -- What one user's calls are, and when two pasts are the same to that user.
-use Rattle.std.specs.Prelude.{◌≡◌, ℕ, ◌/◌, ◌<◌, Bool, true, false, cond, ◌&&◌, List, [], ◌∷◌, ◌++◌, get_or, Some, None, Option, nat_lt}
+use Rattle.std.specs.Prelude.{◌≡◌, ℕ, ◌/◌, ◌<◌, Bool, true, false, ◌&&◌, List, [], ◌∷◌, get_or, Some, None, Option, nat_lt}
 use Rattle.memory.specs.Cells.{Row}
 use Rattle.model.specs.declared.user.Page.{Page}
 use Rattle.model.specs.declared.user.UserMap.{UserMap}
 use Rattle.model.specs.declared.user.Who.{Who}
 use Rattle.model.specs.declared.user.Who.TheVariants.{A, B}
-use Rattle.model.specs.Machine.{Call, Answer, Sense, of, poke, peek, wordless, Deed, block, status, unlisted, start, run, show, sense, State, user_of, call, replay, fresh, Acted}
+use Rattle.model.specs.Machine.{Call, Answer, Sense, of, poke, peek, wordless, Deed, block, status, unlisted, start, run, show, sense, State, user_of, replay, fresh}
 
 -- which of two, by whether two users are the same
 abbrev pub by_user {ℓ} : {X : Type ℓ} → Who → Who → X → X → X

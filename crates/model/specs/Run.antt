@@ -7,7 +7,6 @@ use Rattle.model.specs.declared.steps.Outcome.TheVariants.{Next, Called}
 use Rattle.model.specs.declared.steps.Ran.{Ran}
 use Rattle.model.specs.declared.steps.Turn.{Turn}
 use Rattle.model.specs.declared.steps.Turn.TheVariants.{Goes, Calls, Stops}
-use Rattle.model.specs.declared.stop.Stop.{Stop}
 use Rattle.model.specs.declared.stop.Stop.TheVariants as stop
 use Rattle.model.specs.declared.user.Registers.{Registers}
 use Rattle.model.specs.declared.user.UserMap.{UserMap}

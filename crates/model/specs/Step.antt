@@ -1,5 +1,5 @@
 -- What each word does, over logical addresses, in the order in which the machine reads and writes.
-use Rattle.std.specs.Prelude.{ℕ, ◌+◌, ◌-◌, ◌*◌, ◌/◌, ◌%◌, Bool, true, false, cond, ◌==◌, bit_and, bit_or, bit_xor, count_ones, int_le, int_lt, nat_lt}
+use Rattle.std.specs.Prelude.{ℕ, ◌+◌, ◌-◌, ◌*◌, ◌/◌, ◌%◌, Bool, cond, ◌==◌, bit_and, bit_or, bit_xor, count_ones, int_le, int_lt, nat_lt}
 use Rattle.std.specs.Int.Count.{count_leading_zeros}
 use Rattle.arithmetic.specs.Counts.{without_leading_one}
 use Rattle.arithmetic.specs.Digits.{digit_added, digit_subtracted}

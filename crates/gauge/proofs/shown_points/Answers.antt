@@ -1,4 +1,4 @@
-use mathlib.Core.Path.{◌≡◌, refl}
+use mathlib.Core.Path.{refl}
 use Rattle.gauge.proofs.Shown.{points}
 use Rattle.gauge.proofs.shown_points.Goals as goal
 

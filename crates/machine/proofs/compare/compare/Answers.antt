@@ -7,13 +7,13 @@ use Rattle.machine.proofs.compare.compare.Goals as goal
 
 pub returns : goal.returns
 returns g c =
-    let found = c.first-difference.ensures in
+    let found = c.first_difference.ensures in
     record {
       answer = found.answer;
       left = found.left;
       right = found.right;
       alike =
-          none_if_alike c.first-difference.result c.args.who c.args.blocks.now
+          none_if_alike c.first_difference.result c.args.who c.args.blocks.now
           (modelled g.M.Memory.cells c.args.left.now) (modelled g.N.Memory.cells c.args.right.now) found.answer;
       agreement = agreement _ _;
       order = order;

@@ -9,7 +9,7 @@ returns-in-Some g c =
       answer =
           apart c.in-Some.part c.args.who c.args.blocks.now
           (modelled g.M.Memory.cells c.args.left.now) (modelled g.N.Memory.cells c.args.right.now)
-          c.record-of.result c.record-of-2.result c.record-of.ensures c.record-of-2.ensures c.in-Some.ensures;
+          c.record_of.result c.record_of-2.result c.record_of.ensures c.record_of-2.ensures c.in-Some.ensures;
       left = search rules;
       right = search rules;
     }

@@ -1,4 +1,4 @@
-use Rattle.std.proofs.Common.{◌≡◌, ◌<◌, None, sym, refl, ◌∙◌, arith}
+use Rattle.std.proofs.Common.{None, sym, refl, ◌∙◌, arith}
 use Rattle.std.proofs.lemmas.List.{same_lists, get_or_default}
 use Rattle.model.proofs.user.same_pages.Goals as goal
 

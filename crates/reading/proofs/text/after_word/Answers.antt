@@ -4,9 +4,9 @@ use Rattle.std.proofs.lemmas.List.{nil_from_length}
 use Rattle.reading.specs.Read.{after}
 use Rattle.reading.proofs.text.after_word.Goals as goal
 
-pub returns-in_default-default : goal.returns-in_default-default
+pub returns-in_default-rest : goal.returns-in_default-rest
 unfolding after
-returns-in_default-default c = search rules
+returns-in_default-rest c = search rules
 
 pub returns-then-b-w : goal.returns-then-b-w
 unfolding after

@@ -1,4 +1,4 @@
-use Rattle.std.proofs.Common.{arith, rules, ltb-false, ltb-true}
+use Rattle.std.proofs.Common.{arith, rules, ltb-false}
 use Rattle.std.proofs.lemmas.Slice.{first_rest}
 use Rattle.reading.specs.Read.{digit}
 use Rattle.reading.proofs.text.read_digit.Goals as goal

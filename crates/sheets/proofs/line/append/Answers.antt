@@ -3,4 +3,4 @@ use Rattle.sheets.proofs.Numbers.{carry_number}
 use Rattle.sheets.proofs.line.append.Goals as goal
 
 pub returns : goal.returns
-returns c = let e = c.from.ensures ∙ carry_number c.args.line.registers.carry in simp (← e) c.put-line.ensures
+returns c = let e = c.from.ensures ∙ carry_number c.args.line.registers.carry in simp (← e) c.put_line.ensures

@@ -1,4 +1,4 @@
-use Rattle.std.proofs.Common.{◌≡◌, append_assoc, arith, rules}
+use Rattle.std.proofs.Common.{append_assoc, arith, rules}
 use Rattle.std.proofs.lemmas.List.{append-nil}
 use Rattle.writing.proofs.Figures.{figures_step, figures_none}
 use Rattle.writing.proofs.lines.+put_digits.Goals as goal

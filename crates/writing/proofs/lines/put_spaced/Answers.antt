@@ -1,4 +1,4 @@
-use Rattle.std.proofs.Common.{◌≡◌, append_assoc, arith, rules}
+use Rattle.std.proofs.Common.{append_assoc, arith}
 use Rattle.std.proofs.lemmas.List.{append-nil, drop_more, drop_all}
 use Rattle.writing.proofs.Figures.{spaced_none, spaced_more}
 use Rattle.writing.proofs.lines.put_spaced.Goals as goal

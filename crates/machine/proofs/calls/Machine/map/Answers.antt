@@ -1,4 +1,4 @@
-use Rattle.std.proofs.Common.{◌≡◌, sym, refl, ap, ◌∙◌}
+use Rattle.std.proofs.Common.{sym, refl, ap, ◌∙◌}
 use Rattle.model.specs.declared.user.Who.{Who}
 use Rattle.model.specs.Machine.{of, map, Deed, wordless}
 use Rattle.model.proofs.Pasts.{made, did_sense, did_a, did_b}
