@@ -32,7 +32,7 @@ fn main(rt: HostRuntime) -> anyhow::Result<()> {
             }
             begun = true;
             rt.stdout().write_all(&line)?;
-        } else if line.as_slice() == b"~\n" {
+        } else if line.as_slice() == b"~\n".as_slice() {
             let _ = sheet.pop();
         } else {
             sheet.extend_from_slice(&line)?;

@@ -1,4 +1,4 @@
-use Rattle.std.proofs.Common.{◌≡◌, ℕ, zero, suc, ◌*◌, List, [], ◌∷◌, ◌++◌, length, replicate, refl, ap, arith}
+use Rattle.std.proofs.Common.{◌≡◌, ℕ, zero, suc, ◌*◌, List, [], length, replicate, refl, ap, arith}
 use Rattle.memory.specs.Cells.{sound}
 use Rattle.model.specs.Machine.{State}
 use Rattle.sheets.specs.Report.{rows, blank}

@@ -1,5 +1,5 @@
 -- The line that a row gives in the report.
-use Rattle.std.specs.Prelude.{ℕ, Bool, false, cond, List, [], ◌∷◌, replicate, slice_index}
+use Rattle.std.specs.Prelude.{ℕ, false, cond, List, [], ◌∷◌, replicate, slice_index}
 use Rattle.model.specs.declared.user.Registers.{Registers}
 use Rattle.model.specs.Numbers.{number_of, values_of}
 use Rattle.model.specs.Machine.{Answer, denied, refused, granted, got, permit, ran, shown}

@@ -1,7 +1,6 @@
 -- What a row does: one call of the machine of the rules.
-use Rattle.std.specs.Prelude.{ℕ}
 use Rattle.model.specs.declared.user.Who.{Who}
-use Rattle.model.specs.Machine.{Answer, State, user_of, Call, map, put, start, run, call}
+use Rattle.model.specs.Machine.{Answer, State, user_of, map, put, start, run, call}
 use Rattle.reading.specs.declared.row.Row.{Row}
 use Rattle.reading.specs.declared.row.Row.TheVariants.{Map, Put, Start, Run}
 use Rattle.sheets.specs.declared.line.Line.{Line}

@@ -1,4 +1,4 @@
-use Rattle.std.proofs.Common.{◌≡◌, cond, ◌∙◌, rules}
+use Rattle.std.proofs.Common.{◌∙◌}
 use Rattle.sheets.proofs.Numbers.{carry_number}
 use Rattle.sheets.proofs.line.append.Goals as goal
 

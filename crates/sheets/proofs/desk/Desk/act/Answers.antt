@@ -17,16 +17,16 @@ returns-in-Put g c = let e = same_kinds c.put_row.ensures in search rules
 
 pub returns-in-Start-A-default : goal.returns-in-Start-A-default
 unfolding carried_out
-returns-in-Start-A-default g c = let e = same_kinds c.start_row_a.ensures.line in search rules
+returns-in-Start-A-default g c = let e = same_kinds c.start_row-a.ensures.line in search rules
 
 pub returns-in-Start-B-default : goal.returns-in-Start-B-default
 unfolding carried_out
-returns-in-Start-B-default g c = let e = same_kinds c.start_row_b.ensures.line in search rules
+returns-in-Start-B-default g c = let e = same_kinds c.start_row-b.ensures.line in search rules
 
 pub returns-in-Run-A-default : goal.returns-in-Run-A-default
 unfolding carried_out
-returns-in-Run-A-default g c = let e = same_kinds c.run_row_a.ensures.line in search rules
+returns-in-Run-A-default g c = let e = same_kinds c.run_row-a.ensures.line in search rules
 
 pub returns-in-Run-B-default : goal.returns-in-Run-B-default
 unfolding carried_out
-returns-in-Run-B-default g c = let e = same_kinds c.run_row_b.ensures.line in search rules
+returns-in-Run-B-default g c = let e = same_kinds c.run_row-b.ensures.line in search rules
