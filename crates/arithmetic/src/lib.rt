@@ -5,6 +5,7 @@
 pub mod counts;
 pub mod digits;
 pub mod fields;
+pub mod pointers;
 pub mod shifts;
 pub mod signed;
 pub mod unit;

@@ -4,6 +4,7 @@ ghost use Rattle.std.specs.Prelude.{◌≡◌, ℕ, []};
 ghost use Rattle.model.specs.Machine.{map as mapping, put as putting, get as getting, start as starting, run as running, show as showing, fresh, shown as showed};
 ghost use Rattle.model.specs.Isolation.{Past};
 ghost use Rattle.machine.specs.Calls.{answered, read as got, after_start, after_run};
+ghost use Rattle.model.specs.Programs.{Lawful};
 ghost use Rattle.machine.specs.Machine.{modelled, Makes, seen, who_of, kind_of, begun, ran_on};
 
 use crate::map_word::{MapWord, read_map_word};
@@ -167,7 +168,8 @@ impl<M: Memory> Machine<M> {
 
     /// Runs a user for at most `budget` steps.
     pub fn run(&mut self, permit: Ready, budget: u16) -> Result<Ended, Denied<Ready>>
-        ensures { Makes M.Memory.cells self.old (running permit.who budget) (ran_on result) self.new }
+        ensures laws { Lawful }
+        ensures makes { Makes M.Memory.cells self.old (running permit.who budget) (ran_on result) self.new }
     {
         match self.run_user(permit.who, budget) {
             Ok(ran) => Ok(Ended {

@@ -7,3 +7,7 @@ pub mod Laws
 pub mod Stepwise
 pub mod Order
 pub mod Pasts
+pub mod Loads
+pub mod Reach
+pub mod CutRuns
+pub mod Programs

@@ -8,3 +8,4 @@ pub mod Run
 pub mod Machine
 pub mod Isolation
 pub mod Laws
+pub mod Programs

@@ -6,5 +6,5 @@ use Rattle.arithmetic.proofs.pointers.set_bit.Goals as goal
 pub returns : goal.returns
 returns c =
     let e = masked c.args.pointer c.args.word in
-    let s = or_add_and c.args.word c.mask-of.result in
+    let s = or_add_and c.args.word c.mask_of.result in
     grind (arith, e, s)

@@ -4,7 +4,7 @@
     random_sheets.py [COUNT [SEED]]      COUNT sheets (300 by default), made from SEED (1 by default)
     random_sheets.py print SEED INDEX    one of these sheets
 
-It wants target/bin/sheet, which `rt check sheet` makes. The first sheets on which they differ are printed with both
+It wants crates/sheet/out/sheet, which ./run makes. The first sheets on which they differ are printed with both
 reports, and the status is then 1. A sheet is a program of user A's, made of listed instructions for the most part, over
 a few blocks that are mapped at random; it is run in pieces, started again, and its cells and map are changed between.
 At the end of most sheets user B sums up all the blocks that A can reach, so that what A did to its cells is reported too.
@@ -17,7 +17,7 @@ import sys
 
 import interpret
 
-SHEET = os.path.join(os.path.dirname(os.path.abspath(__file__)), '..', 'target', 'bin', 'sheet')
+SHEET = os.path.join(os.path.dirname(os.path.abspath(__file__)), '..', 'crates', 'sheet', 'out', 'sheet')
 A_BLOCKS = 4                       # physical blocks 0 to 3 are A's; B's sum is made in block 15
 
 # (code, free bits), as in the table of codes of docs/MACHINE.md
