@@ -1,4 +1,4 @@
--- The two_accumulator operations, on the number of 17 bits that carry and a word make: carry * 65536 + word.
+-- The two-accumulator operations, on the number of 17 bits that carry and a word make: carry * 65536 + word.
 use Rattle.std.specs.Prelude.{ℕ, ◌+◌, ◌-◌, ◌*◌, ◌/◌, ◌%◌, Bool, true, false, cond, not, ◌&&◌, ◌||◌, ◌==◌, bit_and, nat_le}
 use Rattle.arithmetic.specs.declared.unit.Wide.{Wide}
 use Rattle.arithmetic.specs.declared.unit.Function.{Function}
@@ -64,7 +64,7 @@ base_of n = cond (n == 0) Keep (cond (n == 1) Zero (cond (n == 2) One Complement
 abbrev pub skip_of : ℕ → Skip
 skip_of n = cond (n == 0) Never (cond (n == 1) Always (cond (n == 2) CarryZero (cond (n == 3) CarryOne (cond (n == 4) ResultZero (cond (n == 5) ResultNot (cond (n == 6) EitherZero BothNot))))))
 
--- a two_accumulator word, by its fields
+-- a two-accumulator word, by its fields
 abbrev pub operated : ℕ → Bool → ℕ → ℕ → Wide
 operated w c s d = split (shifted (shift_of (w / 64 % 4)) (computed (function_of (w / 256 % 8)) (of_carry (base_carry (base_of (w / 16 % 4)) c)) s d % 131072))
 

@@ -1,4 +1,4 @@
-//! The two_accumulator operations: a function of two words, with a carry before it and a shift after it.
+//! The two-accumulator operations: a function of two words, with a carry before it and a shift after it.
 
 ghost use Rattle.std.specs.Prelude.{◌≡◌, ℕ, ◌+◌, ◌/◌, ◌%◌, Bool, true, false, cond, not};
 ghost use Rattle.arithmetic.specs.Unit.{split, of_carry, computed, base_carry, shifted, skips_on, function_of, shift_of, base_of, skip_of, operated, skipping};
@@ -183,7 +183,7 @@ fn skip_field(word: u16) -> Skip
     }
 }
 
-/// What a two_accumulator word makes of the carry, the source and the destination.
+/// What a two-accumulator word makes of the carry, the source and the destination.
 pub fn operate(word: u16, carry: bool, s: u16, d: u16) -> Wide
     ensures { result ≡ operated word carry s d }
 {
@@ -194,7 +194,7 @@ pub fn operate(word: u16, carry: bool, s: u16, d: u16) -> Wide
     )
 }
 
-/// Whether a two_accumulator word with that result skips the next word.
+/// Whether a two-accumulator word with that result skips the next word.
 pub fn skips(word: u16, x: Wide) -> bool
     ensures { result ≡ skipping word x }
 {

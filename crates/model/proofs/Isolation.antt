@@ -127,9 +127,9 @@ new_alike B mine c d s = record { user = refl; memory = same_sym s }
 pub agreement : (s t : State) → Agreement s t
 agreement s t who mine c d p q xs ys past past' same fair fair' eq =
     let n : ℕ = c.size in
-    let fair-c : Sound who mine n (fresh c) = new_sound who mine c n refl in
-    let one = alone who mine n p (fresh c) (fresh c) fair-c fair-c (new_alike who mine c c same_refl) fair in
-    let two = alone who mine n q (fresh d) (fresh c) (new_sound who mine d n (sym same.size)) fair-c (new_alike who mine c d same) fair' in
+    let fair_c : Sound who mine n (fresh c) = new_sound who mine c n refl in
+    let one = alone who mine n p (fresh c) (fresh c) fair_c fair_c (new_alike who mine c c same_refl) fair in
+    let two = alone who mine n q (fresh d) (fresh c) (new_sound who mine d n (sym same.size)) fair_c (new_alike who mine c d same) fair' in
     let left = subst (λ (k : List Call). Alike who mine (replay (fresh c) p).1 (replay (fresh c) k).1) eq one.1 in (
       ap (answers_to who mine n p) past.answers ∙ (one.0 ∙ (ap (λ (k : List Call). (replay (fresh c) k).0) eq ∙ (sym two.0 ∙ sym (ap (answers_to who mine n q) past'.answers)))),
       subst₂ (λ (x y : State). Alike who mine x y) (sym past.state) (sym past'.state) (alike_join who mine n left two.1),

@@ -1,6 +1,6 @@
 ghost use Rattle.std.specs.Prelude.{◌≡◌, ◌++◌, OnOk};
 ghost use Rattle.model.specs.Numbers.{number_of};
-ghost use Rattle.sheets.specs.Lines.{quiet as Quiet-line, line_bytes};
+ghost use Rattle.sheets.specs.Lines.{quiet as quiet_line, line_bytes};
 
 use model::{Denial, Registers};
 use std::alloc::AllocError;
@@ -17,7 +17,7 @@ pub(crate) struct Line {
 
 /// A line of zeros after the answer.
 pub(crate) fn quiet(answer: u16) -> Line
-    ensures { result ≡ Quiet-line answer }
+    ensures { result ≡ quiet_line answer }
 {
     Line {
         answer,
@@ -33,7 +33,7 @@ pub(crate) fn quiet(answer: u16) -> Line
 
 /// The line of a denied row: the denial's number and zeros.
 pub(crate) fn denied(reason: Denial) -> Line
-    ensures { result ≡ Quiet-line (number_of reason) }
+    ensures { result ≡ quiet_line (number_of reason) }
 {
     quiet(u16::from(reason.number()))
 }
