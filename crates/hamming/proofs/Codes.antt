@@ -1,14 +1,13 @@
 -- What the number that holds a word is, and the mended number.
-use Rattle.std.proofs.Common.{◌≡◌, ℕ, zero, suc, ◌+◌, ◌-◌, ◌*◌, ◌/◌, ◌%◌, ◌^◌, ◌<◌, ◌≤◌, cond, eqb, ltb, sym, refl, ap, ◌∙◌, subst, ap₂, le_trans, lt_of_le_of_lt, mul-le-mul_right, mod-lt, mod-eq_of_lt, pow-suc, arith, lit<, eqb→eq, ltb→lt, pow_pos}
+use Rattle.std.proofs.Common.{◌≡◌, ℕ, zero, suc, ◌+◌, ◌-◌, ◌*◌, ◌/◌, ◌%◌, ◌^◌, ◌<◌, ◌≤◌, cond, eqb, ltb, sym, refl, ap, ◌∙◌, subst, ap₂, le_trans, lt_of_le_of_lt, mul-le-mul_right, mod-lt, mod-eq_of_lt, pow-suc, arith, lit<, eqb-true, ltb-true, true, pow_pos}
 use native.Mathlib.Nat.{mod-le}
 use lib.Pow.{shl-shr, field, mod-mod-pow}
 use lib.Bits.{bit_and, bit_xor, xor_self, xor_zero_r, xor_assoc, xor_lt, and_le_r}
 use Rattle.std.specs.Int.{reverse_bits_onto}
-use Rattle.std.proofs.lemmas.Bool.{cond-false, ne_eqb}
+use Rattle.std.proofs.lemmas.Bool.{agree_below_at, cond-false, ne_eqb}
 use Rattle.hamming.specs.Hamming.{held, syndrome_to, syndrome_of, bits_at, word_in, flipped, mended, MendedSound, FlipFound}
 use Rattle.hamming.proofs.Linear.{syndrome_xor, word_xor}
 use Rattle.hamming.proofs.Agree.{Linear, agree}
-use Rattle.hamming.proofs.Tests.{below}
 use Rattle.hamming.proofs.Spread.{left, right, whole, join, after, reversed, words}
 
 -- ---- the code's masks
@@ -40,13 +39,6 @@ pub spread_lt : (b : ℕ) → spread b < 2 ^ 21
 spread_lt b =
     xor_lt 21 _ _ (xor_lt 21 _ _ (xor_lt 21 _ _ (part_lt b 0x1 2 (lit< tt)) (part_lt b 0xe 3 (lit< tt))) (part_lt b 0x7f0 4 (lit< tt))) (part_lt b 0xf800 5 (lit< tt))
 
--- parts of 16 bits, whatever the masks
-pub xor_fits : (a b : ℕ) → a < 65536 → b < 65536 → bit_xor a b < 65536
-xor_fits a b ha hb = xor_lt 16 a b ha hb
-
-pub mask_fits : (b m : ℕ) → m < 65536 → bit_and b m < 65536
-mask_fits b m h = lt_of_le_of_lt (and_le_r b m) h
-
 -- ---- computed tests
 
 -- the code's word is the word, tried at each of 32 bits
@@ -54,27 +46,27 @@ pub gathers : (n : ℕ) → n < 2 ^ 32 → reverse_bits_onto 16 (gather n) 0 ≡
 unfolding reverse_bits_onto word_in bits_at held
 gathers =
     agree (after (reversed 16) gather_linear) words refl 32
-    (λ i h. eqb→eq _ _ (below (λ x. eqb (reverse_bits_onto 16 (gather (2 ^ x)) 0) (word_in (2 ^ x))) 32 tt i h))
+    (λ i h. eqb-true _ _ (agree_below_at (λ x. eqb (reverse_bits_onto 16 (gather (2 ^ x)) 0) (word_in (2 ^ x))) (λ _. true) 32 i refl h))
 
 -- a word that is spread is read again, tried at each of 16 bits
 pub spreads : (w : ℕ) → w < 2 ^ 16 → word_in (spread (reverse_bits_onto 16 w 0)) ≡ w
 unfolding reverse_bits_onto word_in bits_at held
 spreads =
     agree (after words (after spread_linear (reversed 16))) whole refl 16
-    (λ i h. eqb→eq _ _ (below (λ x. eqb (word_in (spread (reverse_bits_onto 16 (2 ^ x) 0))) (2 ^ x)) 16 tt i h))
+    (λ i h. eqb-true _ _ (agree_below_at (λ x. eqb (word_in (spread (reverse_bits_onto 16 (2 ^ x) 0))) (2 ^ x)) (λ _. true) 16 i refl h))
 
 -- the check positions hold a syndrome of their own, and nothing of a word, tried at each of 32 syndromes
 module _ (s : ℕ) (h : s < 32) where
   pub checks_syndrome : syndrome_of (checks s) ≡ s
   unfolding syndrome_of syndrome_to held
-  checks_syndrome = eqb→eq _ _ (below (λ x. eqb (syndrome_of (checks x)) x) 32 tt s h)
+  checks_syndrome = eqb-true _ _ (agree_below_at (λ x. eqb (syndrome_of (checks x)) x) (λ _. true) 32 s refl h)
 
   pub checks_word : word_in (checks s) ≡ 0
   unfolding word_in bits_at held
-  checks_word = eqb→eq _ _ (below (λ x. eqb (word_in (checks x)) 0) 32 tt s h)
+  checks_word = eqb-true _ _ (agree_below_at (λ x. eqb (word_in (checks x)) 0) (λ _. true) 32 s refl h)
 
   pub checks_lt : checks s < 2 ^ 21
-  checks_lt = ltb→lt _ _ (below (λ x. ltb (checks x) (2 ^ 21)) 32 tt s h)
+  checks_lt = ltb-true _ _ (agree_below_at (λ x. ltb (checks x) (2 ^ 21)) (λ _. true) 32 s refl h)
 
 -- a number with its checks
 module _ (b s : ℕ) (low : s < 32) (is : s ≡ syndrome_of (spread b)) where
@@ -114,10 +106,10 @@ syndrome_mod n = syndrome_to_mod 21 n (omega arith)
 module _ (p : ℕ) (h : p < 22) where
   pub flip_syndrome : syndrome_of (2 ^ p / 2) ≡ p
   unfolding syndrome_of syndrome_to held
-  flip_syndrome = eqb→eq _ _ (below (λ x. eqb (syndrome_of (2 ^ x / 2)) x) 22 tt p h)
+  flip_syndrome = eqb-true _ _ (agree_below_at (λ x. eqb (syndrome_of (2 ^ x / 2)) x) (λ _. true) 22 p refl h)
 
   pub flip_lt : 2 ^ p / 2 < 2 ^ 21
-  flip_lt = ltb→lt _ _ (below (λ x. ltb (2 ^ x / 2) (2 ^ 21)) 22 tt p h)
+  flip_lt = ltb-true _ _ (agree_below_at (λ x. ltb (2 ^ x / 2) (2 ^ 21)) (λ _. true) 22 p refl h)
 
 -- from position 1 on, 2 ^ p / 2 is the weight 2 ^ (p - 1)
 weight : (s : ℕ) → 2 ^ suc s / 2 ≡ 2 ^ s
