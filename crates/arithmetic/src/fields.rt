@@ -15,9 +15,5 @@ pub fn low(word: u16, count: u32) -> u16
 pub fn bits(word: u16, from: u32, count: u32) -> u16
     ensures { result ≡ word / 2 ^ from % 2 ^ count }
 {
-    if from < 16 {
-        low(word >> from, count)
-    } else {
-        0
-    }
+    low(word.unbounded_shr(from), count)
 }

@@ -30,7 +30,7 @@ pub fn set_bit(pointer: u16, word: u16) -> u16
 pub fn clear_bit(pointer: u16, word: u16) -> u16
     ensures { result ≡ with_zero pointer word }
 {
-    word - (word & mask_of(pointer))
+    word & !mask_of(pointer)
 }
 
 /// The byte, which is the high one where the pointer is even.

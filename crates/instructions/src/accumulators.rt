@@ -14,9 +14,7 @@ use addressing::mapped::fetch;
 use arithmetic::counts::{add_leading_zeros, add_ones, reset_leading_one};
 use arithmetic::digits::{add_digit, subtract_digit};
 use arithmetic::fields::{bits, low};
-use arithmetic::shifts::{
-    double_hex_left, double_hex_right, double_shift, hex_left, hex_right, shift,
-};
+use arithmetic::shifts::{hex_left, hex_right, shift};
 use arithmetic::signed::{halve, is_at_least, is_greater};
 use memory::Memory;
 use model::{Fault, Outcome, Registers, UserMap};
@@ -129,21 +127,21 @@ pub(crate) fn hxr(r: &mut Registers, word: u16) -> Outcome
 pub(crate) fn dlsh(r: &mut Registers, word: u16) -> Outcome
     ensures { (result, r.new) ≡ step.dlsh r.old word }
 {
-    let x = double_shift(source_in(r, word), double_in(r, word));
+    let x = shift(source_in(r, word), double_in(r, word));
     load_double(r, word, x)
 }
 
 pub(crate) fn dhxl(r: &mut Registers, word: u16) -> Outcome
     ensures { (result, r.new) ≡ step.dhxl r.old word }
 {
-    let x = double_hex_left(immediate_of(word), double_in(r, word));
+    let x = hex_left(immediate_of(word), double_in(r, word));
     load_double(r, word, x)
 }
 
 pub(crate) fn dhxr(r: &mut Registers, word: u16) -> Outcome
     ensures { (result, r.new) ≡ step.dhxr r.old word }
 {
-    let x = double_hex_right(immediate_of(word), double_in(r, word));
+    let x = hex_right(immediate_of(word), double_in(r, word));
     load_double(r, word, x)
 }
 
