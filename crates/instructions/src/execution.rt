@@ -8,14 +8,17 @@ ghost use Rattle.model.specs.Step.{source, destination, jmp as jumping, jsr as c
 ghost use Rattle.model.specs.Run.{settle};
 
 use crate::accumulators::{
-    addi, adi, anc, andi, cob, dad, dhxl, dhxr, dlsh, dsb, hlv, hxl, hxr, ior, iori, lob, lrb, lsh,
-    pass, sbi, sge, sgt, xch, xor, xori,
+    combine, combine_digits, combine_double, compare, immediate, immediate_of, lrb, pass, xch,
 };
 use crate::decode::decode;
 use crate::registers::{destination_of, move_on, source_of};
 use addressing::address::find;
 use addressing::mapped::{fetch, put};
+use arithmetic::counts::{add_leading_zeros, add_ones};
+use arithmetic::digits::{add_digit, subtract_digit};
 use arithmetic::fields::{bits, low};
+use arithmetic::shifts::{hex_left, hex_right, shift};
+use arithmetic::signed::{halve, is_at_least, is_greater};
 use arithmetic::unit::{operate, skips};
 use memory::Memory;
 use model::{Fault, Operation, Outcome, Registers, UserMap};
@@ -130,49 +133,45 @@ fn execute<M: Memory>(
 ) -> Result<Outcome, Fault>
     ensures { (result, r.new, M.Memory.cells memory.new) ≡ settle r.old (perform map.now (M.Memory.cells memory.old) (operation map.now.switches r.old op word)) }
 {
-    match op {
-        Operation::Jmp => jmp(map, memory, r, word),
-        Operation::Jsr => jsr(map, memory, r, word),
-        Operation::Isz => count(map, memory, r, word, 1),
-        Operation::Dsz => count(map, memory, r, word, 0o177777),
-        Operation::Lda => lda(map, memory, r, word),
-        Operation::Sta => sta(map, memory, r, word),
-        Operation::InputOutput => {
-            if map.switches.lef {
-                Err(Fault::Code)
-            } else {
-                Err(Fault::Device)
-            }
-        }
-        Operation::TwoAccumulator => Ok(two(r, word)),
-        Operation::Adi => Ok(adi(r, word)),
-        Operation::Sbi => Ok(sbi(r, word)),
-        Operation::Dad => Ok(dad(r, word)),
-        Operation::Dsb => Ok(dsb(r, word)),
-        Operation::Ior => Ok(ior(r, word)),
-        Operation::Xor => Ok(xor(r, word)),
-        Operation::Anc => Ok(anc(r, word)),
-        Operation::Xch => Ok(xch(r, word)),
-        Operation::Sgt => Ok(sgt(r, word)),
-        Operation::Sge => Ok(sge(r, word)),
-        Operation::Lsh => Ok(lsh(r, word)),
-        Operation::Dlsh => Ok(dlsh(r, word)),
-        Operation::Hxl => Ok(hxl(r, word)),
-        Operation::Hxr => Ok(hxr(r, word)),
-        Operation::Dhxl => Ok(dhxl(r, word)),
-        Operation::Dhxr => Ok(dhxr(r, word)),
-        Operation::Lob => Ok(lob(r, word)),
-        Operation::Lrb => Ok(lrb(r, word)),
-        Operation::Cob => Ok(cob(r, word)),
-        Operation::Hlv => Ok(hlv(r, word)),
-        Operation::Iori => iori(map, memory, r, word),
-        Operation::Xori => xori(map, memory, r, word),
-        Operation::Andi => andi(map, memory, r, word),
-        Operation::Addi => addi(map, memory, r, word),
-        Operation::Lmp => Ok(pass(r)),
-        Operation::Syc => Ok(syc(r)),
-        Operation::Unlisted => Err(Fault::Code),
-    }
+    let n = immediate_of(word);
+    Ok(match op {
+        Operation::Jmp => jmp(map, memory, r, word)?,
+        Operation::Jsr => jsr(map, memory, r, word)?,
+        Operation::Isz => count(map, memory, r, word, 1)?,
+        Operation::Dsz => count(map, memory, r, word, 0o177777)?,
+        Operation::Lda => lda(map, memory, r, word)?,
+        Operation::Sta => sta(map, memory, r, word)?,
+        Operation::InputOutput if map.switches.lef => return Err(Fault::Code),
+        Operation::InputOutput => return Err(Fault::Device),
+        Operation::TwoAccumulator => two(r, word),
+        Operation::Adi => combine(r, word, |_, d| d.wrapping_add(n + 1)),
+        Operation::Sbi => combine(r, word, |_, d| d.wrapping_sub(n + 1)),
+        Operation::Dad => combine_digits(r, word, add_digit),
+        Operation::Dsb => combine_digits(r, word, subtract_digit),
+        Operation::Ior => combine(r, word, |s, d| s | d),
+        Operation::Xor => combine(r, word, |s, d| s ^ d),
+        Operation::Anc => combine(r, word, |s, d| !s & d),
+        Operation::Xch => xch(r, word),
+        Operation::Sgt => compare(r, word, is_greater),
+        Operation::Sge => compare(r, word, is_at_least),
+        Operation::Lsh => combine(r, word, shift),
+        Operation::Dlsh => combine_double(r, word, shift),
+        Operation::Hxl => combine(r, word, |_, d| hex_left(n, d)),
+        Operation::Hxr => combine(r, word, |_, d| hex_right(n, d)),
+        Operation::Dhxl => combine_double(r, word, |_, x| hex_left(n, x)),
+        Operation::Dhxr => combine_double(r, word, |_, x| hex_right(n, x)),
+        Operation::Lob => combine(r, word, add_leading_zeros),
+        Operation::Lrb => lrb(r, word),
+        Operation::Cob => combine(r, word, add_ones),
+        Operation::Hlv => combine(r, word, |_, d| halve(d)),
+        Operation::Iori => immediate(map, memory, r, word, |i, d| i | d)?,
+        Operation::Xori => immediate(map, memory, r, word, |i, d| i ^ d)?,
+        Operation::Andi => immediate(map, memory, r, word, |i, d| i & d)?,
+        Operation::Addi => immediate(map, memory, r, word, |i, d| i.wrapping_add(d))?,
+        Operation::Lmp => pass(r),
+        Operation::Syc => syc(r),
+        Operation::Unlisted => return Err(Fault::Code),
+    })
 }
 
 /// Carries a word out.

@@ -1,5 +1,5 @@
 -- What each word does, over logical addresses, in the order in which the machine reads and writes.
-use Rattle.std.specs.Prelude.{ℕ, ◌+◌, ◌-◌, ◌*◌, ◌/◌, ◌%◌, Bool, cond, ◌==◌, bit_and, bit_or, bit_xor, count_ones, int_le, int_lt, nat_lt}
+use Rattle.std.specs.Prelude.{ℕ, ◌+◌, ◌-◌, ◌*◌, ◌/◌, ◌%◌, Bool, cond, ◌==◌, bit_and, bit_or, bit_xor, count_ones, int_le, int_lt, nat_lt, ℤ}
 use Rattle.std.specs.Int.Count.{count_leading_zeros}
 use Rattle.arithmetic.specs.Counts.{without_leading_one}
 use Rattle.arithmetic.specs.Digits.{digit_added, digit_subtracted}
@@ -149,51 +149,57 @@ aimed r w = accumulator r (destination w)
 abbrev pub loaded_with : Registers → ℕ → ℕ → Outcome × Registers
 loaded_with r w x = (Next, moved (with_accumulator r (destination w) x) 1)
 
+-- it becomes what f makes of it, or of the source and it
+abbrev pub changed : (ℕ → ℕ) → Registers → ℕ → Outcome × Registers
+changed f r w = loaded_with r w (f (aimed r w))
+
+abbrev pub combined : (ℕ → ℕ → ℕ) → Registers → ℕ → Outcome × Registers
+combined f r w = changed (f (sourced r w)) r w
+
 -- the immediate field stands where the source does, and is one less than what is added or subtracted
 abbrev pub adi : Registers → ℕ → Outcome × Registers
-adi r w = loaded_with r w ((aimed r w + (source w + 1)) % 65536)
+adi r w = changed (λ d. (d + (source w + 1)) % 65536) r w
 
 abbrev pub sbi : Registers → ℕ → Outcome × Registers
-sbi r w = loaded_with r w ((aimed r w + 65536 - (source w + 1)) % 65536)
+sbi r w = changed (λ d. (d + 65536 - (source w + 1)) % 65536) r w
+
+-- the same with the carry
+abbrev pub with_wide : Registers → ℕ → Wide → Outcome × Registers
+with_wide r w x = (Next, moved (with_carry (with_accumulator r (destination w) x.word) x.carry) 1)
 
 abbrev pub digit : (Bool → ℕ → ℕ → Wide) → Registers → ℕ → Outcome × Registers
-digit f r w =
-    let x = f r.carry (sourced r w) (aimed r w) in
-    (Next, moved (with_carry (with_accumulator r (destination w) x.word) x.carry) 1)
-
-abbrev pub ior : Registers → ℕ → Outcome × Registers
-ior r w = loaded_with r w (bit_or (sourced r w) (aimed r w))
-
-abbrev pub xor : Registers → ℕ → Outcome × Registers
-xor r w = loaded_with r w (bit_xor (sourced r w) (aimed r w))
+digit f r w = with_wide r w (f r.carry (sourced r w) (aimed r w))
 
 -- the complement of the source and the destination
 abbrev pub anc : Registers → ℕ → Outcome × Registers
-anc r w = loaded_with r w (bit_and (65535 - sourced r w) (aimed r w))
+anc = combined (λ s d. bit_and (65535 - s) d)
 
 abbrev pub xch : Registers → ℕ → Outcome × Registers
 xch r w = (Next, moved (with_accumulator (with_accumulator r (source w) (aimed r w)) (destination w) (sourced r w)) 1)
 
--- a comparison of signed numbers; the next word is skipped where it holds
+-- the next word is skipped where a comparison of the signed numbers holds
 abbrev pub skip_if : Bool → Registers → Outcome × Registers
 skip_if b r = (Next, moved r (cond b 2 1))
 
+abbrev pub compared : (ℤ → ℤ → Bool) → Registers → ℕ → Outcome × Registers
+compared f r w = skip_if (f (integer (sourced r w)) (integer (aimed r w))) r
+
 abbrev pub sgt : Registers → ℕ → Outcome × Registers
-sgt r w = skip_if (int_lt (integer (aimed r w)) (integer (sourced r w))) r
+sgt = compared (λ s d. int_lt d s)
 
 abbrev pub sge : Registers → ℕ → Outcome × Registers
-sge r w = skip_if (int_le (integer (aimed r w)) (integer (sourced r w))) r
+sge = compared (λ s d. int_le d s)
 
 -- bits 8-15 of the source are a signed count
 abbrev pub lsh : Registers → ℕ → Outcome × Registers
-lsh r w = loaded_with r w (shifted_by_signed 16 (sourced r w % 256) (aimed r w))
+lsh = combined (λ s d. shifted_by_signed 16 (s % 256) d)
 
 -- the immediate field is one less than the hex digits that are shifted
 abbrev pub hxl : Registers → ℕ → Outcome × Registers
-hxl r w = loaded_with r w (shifted_left 16 (hex_places (source w)) (aimed r w))
+hxl r w = changed (shifted_left 16 (hex_places (source w))) r w
 
 abbrev pub hxr : Registers → ℕ → Outcome × Registers
-hxr r w = loaded_with r w (shifted_right (hex_places (source w)) (aimed r w))
+hxr r w = changed (shifted_right (hex_places (source w))) r w
 
 -- two adjoining accumulators, the destination and the next, are one number of 32 bits; after AC3 comes AC0
 abbrev pub next_to : ℕ → ℕ
@@ -205,18 +211,21 @@ doubled r w = record { high = aimed r w; low = accumulator r (next_to (destinati
 abbrev pub with_double : Registers → ℕ → Double → Outcome × Registers
 with_double r w x = (Next, moved (with_accumulator (with_accumulator r (destination w) x.high) (next_to (destination w)) x.low) 1)
 
+abbrev pub changed_double : (ℕ → ℕ) → Registers → ℕ → Outcome × Registers
+changed_double f r w = with_double r w (halves (f (number (doubled r w))))
+
 abbrev pub dlsh : Registers → ℕ → Outcome × Registers
-dlsh r w = with_double r w (halves (shifted_by_signed 32 (sourced r w % 256) (number (doubled r w))))
+dlsh r w = changed_double (shifted_by_signed 32 (sourced r w % 256)) r w
 
 abbrev pub dhxl : Registers → ℕ → Outcome × Registers
-dhxl r w = with_double r w (halves (shifted_left 32 (hex_places (source w)) (number (doubled r w))))
+dhxl r w = changed_double (shifted_left 32 (hex_places (source w))) r w
 
 abbrev pub dhxr : Registers → ℕ → Outcome × Registers
-dhxr r w = with_double r w (halves (shifted_right (hex_places (source w)) (number (doubled r w))))
+dhxr r w = changed_double (shifted_right (hex_places (source w))) r w
 
 -- the zeros before the highest one of the source are counted onto the destination
 abbrev pub lob : Registers → ℕ → Outcome × Registers
-lob r w = loaded_with r w ((aimed r w + count_leading_zeros 16 (sourced r w)) % 65536)
+lob = combined (λ s d. (d + count_leading_zeros 16 s) % 65536)
 
 -- the same, and that one is taken away; of one accumulator no count is taken
 abbrev pub lrb : Registers → ℕ → Outcome × Registers
@@ -226,10 +235,7 @@ lrb r w =
 
 -- the ones of the source are counted onto the destination
 abbrev pub cob : Registers → ℕ → Outcome × Registers
-cob r w = loaded_with r w ((aimed r w + count_ones (sourced r w)) % 65536)
-
-abbrev pub hlv : Registers → ℕ → Outcome × Registers
-hlv r w = loaded_with r w (halved (aimed r w))
+cob = combined (λ s d. (d + count_ones s) % 65536)
 
 -- the second word is the operand; it is fetched through the map
 abbrev pub second : Registers → Access ℕ
@@ -271,8 +277,8 @@ operation s r Adi w = ret (adi r w)
 operation s r Sbi w = ret (sbi r w)
 operation s r Dad w = ret (digit digit_added r w)
 operation s r Dsb w = ret (digit digit_subtracted r w)
-operation s r Ior w = ret (ior r w)
-operation s r Xor w = ret (xor r w)
+operation s r Ior w = ret (combined bit_or r w)
+operation s r Xor w = ret (combined bit_xor r w)
 operation s r Anc w = ret (anc r w)
 operation s r Xch w = ret (xch r w)
 operation s r Sgt w = ret (sgt r w)
@@ -286,7 +292,7 @@ operation s r Dhxr w = ret (dhxr r w)
 operation s r Lob w = ret (lob r w)
 operation s r Lrb w = ret (lrb r w)
 operation s r Cob w = ret (cob r w)
-operation s r Hlv w = ret (hlv r w)
+operation s r Hlv w = ret (changed halved r w)
 operation s r Iori w = immediate bit_or r w
 operation s r Xori w = immediate bit_xor r w
 operation s r Andi w = immediate bit_and r w
