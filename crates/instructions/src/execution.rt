@@ -170,11 +170,11 @@ fn execute<M: Memory>(
         Operation::Addi => immediate(map, memory, r, word, |i, d| i.wrapping_add(d))?,
         Operation::Lmp => pass(r),
         Operation::Syc => syc(r),
-        Operation::Unlisted => return Err(Fault::Code),
     })
 }
 
 /// Carries a word out.
+#[tactic(auto, unfolding(model::specs::Step::instruction))]
 pub fn carry_out<M: Memory>(
     map: &UserMap,
     memory: &mut M,
@@ -183,5 +183,6 @@ pub fn carry_out<M: Memory>(
 ) -> Result<Outcome, Fault>
     ensures { (result, r.new, M.Memory.cells memory.new) ≡ settle r.old (perform map.now (M.Memory.cells memory.old) (instruction map.now.switches r.old word)) }
 {
-    execute(map, memory, r, decode(word), word)
+    let op = decode(word).ok_or(Fault::Code)?;
+    execute(map, memory, r, op, word)
 }

@@ -1,5 +1,5 @@
 -- What each word does, over logical addresses, in the order in which the machine reads and writes.
-use Rattle.std.specs.Prelude.{ℕ, ◌+◌, ◌-◌, ◌*◌, ◌/◌, ◌%◌, Bool, cond, ◌==◌, bit_and, bit_or, bit_xor, count_ones, int_le, int_lt, nat_lt, ℤ}
+use Rattle.std.specs.Prelude.{ℕ, ◌+◌, ◌-◌, ◌*◌, ◌/◌, ◌%◌, Bool, cond, ◌==◌, Option, Some, None, bit_and, bit_or, bit_xor, count_ones, int_le, int_lt, nat_lt, ℤ}
 use Rattle.std.specs.Int.Count.{count_leading_zeros}
 use Rattle.arithmetic.specs.Counts.{without_leading_one}
 use Rattle.arithmetic.specs.Digits.{digit_added, digit_subtracted}
@@ -9,7 +9,7 @@ use Rattle.arithmetic.specs.Unit.{operated, skipping}
 use Rattle.arithmetic.specs.declared.shifts.Double.{Double}
 use Rattle.arithmetic.specs.declared.unit.Wide.{Wide}
 use Rattle.model.specs.declared.steps.Operation.{Operation}
-use Rattle.model.specs.declared.steps.Operation.TheVariants.{Jmp, Jsr, Isz, Dsz, Lda, Sta, InputOutput, TwoAccumulator, Adi, Sbi, Dad, Dsb, Ior, Xor, Anc, Xch, Sgt, Sge, Lsh, Dlsh, Hxl, Hxr, Dhxl, Dhxr, Lob, Lrb, Cob, Hlv, Iori, Xori, Andi, Addi, Lmp, Syc, Unlisted}
+use Rattle.model.specs.declared.steps.Operation.TheVariants.{Jmp, Jsr, Isz, Dsz, Lda, Sta, InputOutput, TwoAccumulator, Adi, Sbi, Dad, Dsb, Ior, Xor, Anc, Xch, Sgt, Sge, Lsh, Dlsh, Hxl, Hxr, Dhxl, Dhxr, Lob, Lrb, Cob, Hlv, Iori, Xori, Andi, Addi, Lmp, Syc}
 use Rattle.model.specs.declared.steps.Outcome.{Outcome}
 use Rattle.model.specs.declared.steps.Outcome.TheVariants.{Next, Called}
 use Rattle.model.specs.declared.user.Registers.{Registers}
@@ -39,44 +39,45 @@ without_two w = 32768 + w % 2048
 abbrev pub without_one : ℕ → ℕ
 without_one w = w / 8192 * 8192 + w % 2048
 
-abbrev pub decoded_none : ℕ → Operation
-decoded_none w = cond (w == 0o113410) Lmp Unlisted
+abbrev pub decoded_none : ℕ → Option Operation
+decoded_none w = cond (w == 0o113410) (Some Lmp) None
 
-abbrev pub decoded_one : ℕ → Operation
+abbrev pub decoded_one : ℕ → Option Operation
 decoded_one w =
-    cond (without_one w == 0o143370) Hlv
-    (cond (without_one w == 0o103770) Iori
-    (cond (without_one w == 0o123770) Xori
-    (cond (without_one w == 0o143770) Andi
-    (cond (without_one w == 0o163770) Addi
+    cond (without_one w == 0o143370) (Some Hlv)
+    (cond (without_one w == 0o103770) (Some Iori)
+    (cond (without_one w == 0o123770) (Some Xori)
+    (cond (without_one w == 0o143770) (Some Andi)
+    (cond (without_one w == 0o163770) (Some Addi)
     (decoded_none w)))))
 
-abbrev pub decoded_two : ℕ → Operation
+abbrev pub decoded_two : ℕ → Option Operation
 decoded_two w =
-    cond (without_two w == 0o100010) Adi
-    (cond (without_two w == 0o100110) Sbi
-    (cond (without_two w == 0o100210) Dad
-    (cond (without_two w == 0o100310) Dsb
-    (cond (without_two w == 0o100410) Ior
-    (cond (without_two w == 0o100510) Xor
-    (cond (without_two w == 0o100610) Anc
-    (cond (without_two w == 0o100710) Xch
-    (cond (without_two w == 0o101010) Sgt
-    (cond (without_two w == 0o101110) Sge
-    (cond (without_two w == 0o101210) Lsh
-    (cond (without_two w == 0o101310) Dlsh
-    (cond (without_two w == 0o101410) Hxl
-    (cond (without_two w == 0o101510) Hxr
-    (cond (without_two w == 0o101610) Dhxl
-    (cond (without_two w == 0o101710) Dhxr
-    (cond (without_two w == 0o102410) Lob
-    (cond (without_two w == 0o102510) Lrb
-    (cond (without_two w == 0o102610) Cob
-    (cond (without_two w == 0o103510) Syc
+    cond (without_two w == 0o100010) (Some Adi)
+    (cond (without_two w == 0o100110) (Some Sbi)
+    (cond (without_two w == 0o100210) (Some Dad)
+    (cond (without_two w == 0o100310) (Some Dsb)
+    (cond (without_two w == 0o100410) (Some Ior)
+    (cond (without_two w == 0o100510) (Some Xor)
+    (cond (without_two w == 0o100610) (Some Anc)
+    (cond (without_two w == 0o100710) (Some Xch)
+    (cond (without_two w == 0o101010) (Some Sgt)
+    (cond (without_two w == 0o101110) (Some Sge)
+    (cond (without_two w == 0o101210) (Some Lsh)
+    (cond (without_two w == 0o101310) (Some Dlsh)
+    (cond (without_two w == 0o101410) (Some Hxl)
+    (cond (without_two w == 0o101510) (Some Hxr)
+    (cond (without_two w == 0o101610) (Some Dhxl)
+    (cond (without_two w == 0o101710) (Some Dhxr)
+    (cond (without_two w == 0o102410) (Some Lob)
+    (cond (without_two w == 0o102510) (Some Lrb)
+    (cond (without_two w == 0o102610) (Some Cob)
+    (cond (without_two w == 0o103510) (Some Syc)
     (decoded_one w))))))))))))))))))))
 
-abbrev pub decoded : ℕ → Operation
-decoded w = cond (nat_lt w 32768) (decoded_low w) (cond (w % 16 == 0o10) (decoded_two w) TwoAccumulator)
+-- none where the word is not listed
+abbrev pub decoded : ℕ → Option Operation
+decoded w = cond (nat_lt w 32768) (Some (decoded_low w)) (cond (w % 16 == 0o10) (decoded_two w) (Some TwoAccumulator))
 
 -- ---- the operations: r is the registers before, w the word
 
@@ -299,8 +300,12 @@ operation s r Andi w = immediate bit_and r w
 operation s r Addi w = immediate added r w
 operation s r Lmp w = ret (lmp r)
 operation s r Syc w = ret (syc r)
-operation s r Unlisted w = halt code
+
+-- a word that is not listed is not carried out
+abbrev pub effect_of : Switches → Registers → ℕ → Option Operation → Effect
+effect_of s r w (Some op) = operation s r op w
+effect_of s r w None = halt code
 
 -- the word w, fetched at the PC
 unfoldable pub instruction : Switches → Registers → ℕ → Effect
-instruction s r w = operation s r (decoded w) w
+instruction s r w = effect_of s r w (decoded w)
