@@ -10,26 +10,21 @@ use memory::Memory;
 use model::{Fault, Registers, Switches, UserMap};
 
 // A displacement of eight bits is signed; addresses wrap at fifteen bits.
-fn displace(base: u16, displacement: u16) -> u16
-    requires { displacement < 256 }
+fn displace(base: u16, displacement: u8) -> u16
     ensures { result ≡ displaced base displacement }
 {
-    let signed = if displacement < 128 {
-        displacement
-    } else {
-        displacement.wrapping_sub(256)
-    };
-    low(base.wrapping_add(signed), 15)
+    let signed = i16::from(displacement.cast_signed());
+    low(base.wrapping_add_signed(signed), 15)
 }
 
 fn first_of(r: &Registers, word: u16) -> u16
     ensures { result ≡ first_address r.now word }
 {
-    let displacement = low(word, 8);
+    let displacement = low(word, 8) as u8;
     match bits(word, 8, 2) {
-        0 => displacement,
+        0 => u16::from(displacement),
         1 => displace(r.pc, displacement),
-        base => displace(r.ac[base as usize], displacement),
+        base => displace(r.ac[usize::from(base)], displacement),
     }
 }
 
@@ -55,6 +50,7 @@ fn fetch_link<M: Memory>(map: &UserMap, memory: &mut M, at: u16) -> Result<u16, 
 }
 
 // The address at the end of a chain of at most `limit` fetches.
+#[tactic(auto, using(crate::proofs::Turns::one_more))]
 fn resolve<M: Memory>(map: &UserMap, memory: &mut M, first: u16, limit: u16) -> Result<u16, Fault>
     ensures { (result, M.Memory.cells memory.new) ≡ perform map.now (M.Memory.cells memory.old) (follow first limit) }
 {
@@ -79,10 +75,9 @@ pub fn find<M: Memory>(
     ensures { (result, M.Memory.cells memory.new) ≡ perform map.now (M.Memory.cells memory.old) (effective map.now.switches r.now word) }
 {
     let first = first_of(r, word);
-    let at = if bits(word, 10, 1) == 1 {
-        resolve(map, memory, first, limit_of(map.switches))?
+    if bits(word, 10, 1) == 1 {
+        resolve(map, memory, first, limit_of(map.switches))
     } else {
-        first
-    };
-    Ok(at)
+        Ok(first)
+    }
 }
