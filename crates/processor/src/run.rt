@@ -13,25 +13,23 @@ fn advance<M: Memory>(map: &UserMap, memory: &mut M, r: &mut Registers) -> Turn
     ensures { (result, r.new, M.Memory.cells memory.new) ≡ advanced map.now r.old (M.Memory.cells memory.old) }
 {
     let address = r.pc;
+    let faulted = |word, fault| Turn::Stops(Stop::Faulted {
+        address,
+        word,
+        fault,
+    });
     match fetch(map, memory, address) {
-        Err(fault) => Turn::Stops(Stop::Faulted {
-            address,
-            word: 0,
-            fault,
-        }),
+        Err(fault) => faulted(0, fault),
         Ok(word) => match carry_out(map, memory, r, word) {
             Ok(Outcome::Next) => Turn::Goes,
             Ok(Outcome::Called) => Turn::Calls(Stop::Call { address, word }),
-            Err(fault) => Turn::Stops(Stop::Faulted {
-                address,
-                word,
-                fault,
-            }),
+            Err(fault) => faulted(word, fault),
         },
     }
 }
 
 /// At most `budget` steps. Whether they are spent is tested before each.
+#[tactic(auto, using(addressing::proofs::Turns::one_more))]
 pub fn run_steps<M: Memory>(map: &UserMap, memory: &mut M, r: &mut Registers, budget: u16) -> Ran
     ensures { (result, r.new, M.Memory.cells memory.new) ≡ runs budget 0 map.now r.old (M.Memory.cells memory.old) }
 {
