@@ -1,6 +1,6 @@
 //! A bit and a byte of a word, by the pointer to it.
 
-ghost use Rattle.std.specs.Prelude.{◌≡◌, ℕ, ◌%◌};
+ghost use Rattle.std.specs.Prelude.{◌≡◌, ◌%◌};
 ghost use Rattle.arithmetic.specs.Pointers.{weight, bit_is_one, with_one, with_zero, byte_in, with_byte};
 
 use crate::fields::low;

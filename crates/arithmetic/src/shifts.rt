@@ -1,6 +1,6 @@
 //! Logical shifts of a word and of two: bits that are shifted out are lost, and zeros come in.
 
-ghost use Rattle.std.specs.Prelude.{◌≡◌, ℕ, ◌+◌, ◌*◌, ◌/◌, ◌%◌, ◌^◌};
+ghost use Rattle.std.specs.Prelude.{◌≡◌, ℕ, ◌%◌};
 ghost use Rattle.arithmetic.specs.Shifts.{shifted_left, shifted_right, shifted_by_signed, hex_places, number, halves};
 
 use crate::fields::low;
@@ -31,7 +31,7 @@ impl From<u32> for Double {
     }
 }
 
-/// A number of so many bits, which are shifted by any number of places.
+/// A number of a width in bits, which is shifted by any number of places.
 pub trait Logical: Copy {
     ghost width: { ℕ };
 
@@ -86,8 +86,7 @@ fn places(n: u16) -> u32
     u32::from(4 * (low(n, 2) + 1))
 }
 
-/// A word, or two, shifted by the signed number in the low byte of `count`: to the left where it is positive, else to
-/// the right.
+/// A number shifted by the signed one in the low byte of `count`: to the left where that is positive, else to the right.
 pub fn shift<T: Logical>(count: u16, x: T) -> T
     ensures { result ≡ T.of_number (shifted_by_signed T.width (count % 256) (T.number_of x)) }
 {
@@ -99,14 +98,14 @@ pub fn shift<T: Logical>(count: u16, x: T) -> T
     }
 }
 
-/// The same shifted to the left by one to four hex digits.
+/// A number shifted to the left by one to four hex digits.
 pub fn hex_left<T: Logical>(n: u16, x: T) -> T
     ensures { result ≡ T.of_number (shifted_left T.width (hex_places n) (T.number_of x)) }
 {
     x.shifted_left(places(n))
 }
 
-/// The same shifted to the right by one to four hex digits.
+/// A number shifted to the right by one to four hex digits.
 pub fn hex_right<T: Logical>(n: u16, x: T) -> T
     ensures { result ≡ T.of_number (shifted_right (hex_places n) (T.number_of x)) }
 {

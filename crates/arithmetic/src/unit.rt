@@ -1,6 +1,6 @@
 //! The two-accumulator operations: a function of two words, with a carry before it and a shift after it.
 
-ghost use Rattle.std.specs.Prelude.{◌≡◌, ℕ, ◌+◌, ◌/◌, ◌%◌, Bool, true, false, cond, not};
+ghost use Rattle.std.specs.Prelude.{◌≡◌, ◌+◌, ◌/◌, ◌%◌};
 ghost use Rattle.arithmetic.specs.Unit.{split, of_carry, computed, base_carry, shifted, skips_on, function_of, shift_of, base_of, skip_of, operated, skipping};
 
 use crate::fields::{bits, low};

@@ -4,21 +4,20 @@
 ghost use Rattle.std.specs.Prelude.{◌≡◌, ℕ, Bool, Ok, Err, IfOk, IfErr};
 ghost use Rattle.arithmetic.specs.declared.shifts.Double.{Double};
 ghost use Rattle.arithmetic.specs.declared.unit.Wide.{Wide};
-ghost use Rattle.model.specs.Access.{perform};
-ghost use Rattle.model.specs.Run.{settle};
-ghost use Rattle.model.specs.Step.{sourced, aimed, loaded_with, with_wide, skip_if, doubled, with_double};
+ghost use Rattle.addressing.specs.Mapped.{Performs};
+ghost use Rattle.model.specs.Step.{sourced, aimed, doubled};
 ghost use Rattle.model.specs.Step as step;
 
 use crate::registers::{
     destination_in, destination_of, double_in, load, load_double, move_on, source_in, source_of,
 };
-use addressing::mapped::fetch;
+use addressing::mapped::Mapped;
 use arithmetic::counts::{add_leading_zeros, reset_leading_one};
 use arithmetic::fields::{bits, low};
 use arithmetic::shifts::Double;
 use arithmetic::unit::Wide;
 use memory::Memory;
-use model::{Fault, Outcome, Registers, UserMap};
+use model::{Fault, Outcome, Registers};
 
 // The immediate field stands where the source does.
 pub(crate) fn immediate_of(word: u16) -> u16
@@ -30,7 +29,7 @@ pub(crate) fn immediate_of(word: u16) -> u16
 // The destination becomes what `f` makes of the source and of it.
 pub(crate) fn combine<F: FnOnce(u16, u16) -> u16>(r: &mut Registers, word: u16, f: F) -> Outcome
     requires { F.pre f (sourced r.old word) (aimed r.old word) }
-    ensures { (x : ℕ) × F.post f (sourced r.old word) (aimed r.old word) x × ((result, r.new) ≡ loaded_with r.old word x) }
+    ensures { (x : ℕ) × F.post f (sourced r.old word) (aimed r.old word) x × ((result, r.new) ≡ step.loaded_with r.old word x) }
 {
     let x = f(source_in(r, word), destination_in(r, word));
     load(r, word, x)
@@ -43,7 +42,7 @@ pub(crate) fn combine_digits<F: FnOnce(bool, u16, u16) -> Wide>(
     f: F,
 ) -> Outcome
     requires { F.pre f r.old.carry (sourced r.old word) (aimed r.old word) }
-    ensures { (x : Wide) × F.post f r.old.carry (sourced r.old word) (aimed r.old word) x × ((result, r.new) ≡ with_wide r.old word x) }
+    ensures { (x : Wide) × F.post f r.old.carry (sourced r.old word) (aimed r.old word) x × ((result, r.new) ≡ step.with_wide r.old word x) }
 {
     let x = f(r.carry, source_in(r, word), destination_in(r, word));
     r.carry = x.carry;
@@ -57,7 +56,7 @@ pub(crate) fn combine_double<F: FnOnce(u16, Double) -> Double>(
     f: F,
 ) -> Outcome
     requires { F.pre f (sourced r.old word) (doubled r.old word) }
-    ensures { (x : Double) × F.post f (sourced r.old word) (doubled r.old word) x × ((result, r.new) ≡ with_double r.old word x) }
+    ensures { (x : Double) × F.post f (sourced r.old word) (doubled r.old word) x × ((result, r.new) ≡ step.with_double r.old word x) }
 {
     let x = f(source_in(r, word), double_in(r, word));
     load_double(r, word, x)
@@ -70,7 +69,7 @@ pub(crate) fn compare<F: FnOnce(u16, u16) -> bool>(
     holds: F,
 ) -> Outcome
     requires { F.pre holds (sourced r.old word) (aimed r.old word) }
-    ensures { (b : Bool) × F.post holds (sourced r.old word) (aimed r.old word) b × ((result, r.new) ≡ skip_if b r.old) }
+    ensures { (b : Bool) × F.post holds (sourced r.old word) (aimed r.old word) b × ((result, r.new) ≡ step.skip_if b r.old) }
 {
     let skips = holds(source_in(r, word), destination_in(r, word));
     move_on(r, if skips { 2 } else { 1 });
@@ -107,26 +106,25 @@ pub(crate) fn pass(r: &mut Registers) -> Outcome
 }
 
 // The word behind the instruction.
-fn second_word<M: Memory>(map: &UserMap, memory: &mut M, r: &Registers) -> Result<u16, Fault>
-    ensures { (result, M.Memory.cells memory.new) ≡ perform map.now (M.Memory.cells memory.old) (step.second r.now) }
+fn second_word<M: Memory>(m: &mut Mapped<'_, M>, r: &Registers) -> Result<u16, Fault>
+    ensures { Performs M.Memory.cells m.old m.new result (step.second r.now) }
 {
-    fetch(map, memory, low(r.pc.wrapping_add(1), 15))
+    m.fetch(low(r.pc.wrapping_add(1), 15))
 }
 
 // The destination becomes what `f` makes of that word and of it.
 pub(crate) fn immediate<M: Memory, F: FnOnce(u16, u16) -> u16>(
-    map: &UserMap,
-    memory: &mut M,
+    m: &mut Mapped<'_, M>,
     r: &mut Registers,
     word: u16,
     f: F,
 ) -> Result<Outcome, Fault>
     requires { F.IsAlwaysCallable f }
-    ensures ok { IfOk result (λ o. (i x : ℕ) × ((Ok i, M.Memory.cells memory.new) ≡ perform map.now (M.Memory.cells memory.old) (step.second r.old))
-        × F.post f i (aimed r.old word) x × ((o, r.new) ≡ step.loaded_past r.old word x)) }
-    ensures err { IfErr result (λ e. ((Err e, M.Memory.cells memory.new) ≡ perform map.now (M.Memory.cells memory.old) (step.second r.old)) × (r.new ≡ r.old)) }
+    ensures ok { IfOk result (λ o. (i x : ℕ) × Performs M.Memory.cells m.old m.new (Ok i) (step.second r.old) × F.post f i (aimed r.old word) x
+        × ((o, r.new) ≡ step.loaded_past r.old word x)) }
+    ensures err { IfErr result (λ e. Performs M.Memory.cells m.old m.new (Err e) (step.second r.old) × (r.new ≡ r.old)) }
 {
-    let i = second_word(map, memory, r)?;
+    let i = second_word(m, r)?;
     r.ac[destination_of(word)] = f(i, destination_in(r, word));
     move_on(r, 2);
     Ok(Outcome::Next)
