@@ -9,7 +9,7 @@ use crate::accumulators::{
     combine, combine_digits, combine_double, compare, immediate, immediate_of, lrb, pass, xch,
 };
 use crate::decode::decode;
-use crate::registers::{destination_of, move_on, source_of};
+use crate::registers::{destination_in, destination_of, load, move_on, source_in};
 use addressing::mapped::Mapped;
 use arithmetic::counts::{add_leading_zeros, add_ones};
 use arithmetic::digits::{add_digit, subtract_digit};
@@ -23,8 +23,7 @@ use model::{Fault, Operation, Outcome, Registers};
 fn jmp<M: Memory>(m: &mut Mapped<'_, M>, r: &mut Registers, word: u16) -> Result<Outcome, Fault>
     ensures { Settles M.Memory.cells m.old m.new r.old r.new result (step.jmp m.old.map.now.switches r.old word) }
 {
-    let at = m.find(r, word)?;
-    r.pc = at;
+    r.pc = m.find(r, word)?;
     Ok(Outcome::Next)
 }
 
@@ -33,8 +32,7 @@ fn jsr<M: Memory>(m: &mut Mapped<'_, M>, r: &mut Registers, word: u16) -> Result
 {
     let at = m.find(r, word)?;
     move_on(r, 1);
-    let back = r.pc;
-    r.ac[3] = back;
+    r.ac[3] = r.pc;
     r.pc = at;
     Ok(Outcome::Next)
 }
@@ -60,16 +58,14 @@ fn lda<M: Memory>(m: &mut Mapped<'_, M>, r: &mut Registers, word: u16) -> Result
 {
     let at = m.find(r, word)?;
     let n = m.fetch(at)?;
-    r.ac[destination_of(word)] = n;
-    move_on(r, 1);
-    Ok(Outcome::Next)
+    Ok(load(r, word, n))
 }
 
 fn sta<M: Memory>(m: &mut Mapped<'_, M>, r: &mut Registers, word: u16) -> Result<Outcome, Fault>
     ensures { Settles M.Memory.cells m.old m.new r.old r.new result (step.sta m.old.map.now.switches r.old word) }
 {
     let at = m.find(r, word)?;
-    m.put(at, r.ac[destination_of(word)])?;
+    m.put(at, destination_in(r, word))?;
     move_on(r, 1);
     Ok(Outcome::Next)
 }
@@ -78,12 +74,7 @@ fn sta<M: Memory>(m: &mut Mapped<'_, M>, r: &mut Registers, word: u16) -> Result
 fn two(r: &mut Registers, word: u16) -> Outcome
     ensures { (result, r.new) ≡ step.two_accumulator r.old word }
 {
-    let x = operate(
-        word,
-        r.carry,
-        r.ac[source_of(word)],
-        r.ac[destination_of(word)],
-    );
+    let x = operate(word, r.carry, source_in(r, word), destination_in(r, word));
     if bits(word, 3, 1) == 0 {
         r.ac[destination_of(word)] = x.word;
         r.carry = x.carry;

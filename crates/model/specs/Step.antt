@@ -1,5 +1,5 @@
 -- What each word does, over logical addresses, in the order in which the machine reads and writes.
-use Rattle.std.specs.Prelude.{ℕ, ◌+◌, ◌-◌, ◌*◌, ◌/◌, ◌%◌, Bool, cond, ◌==◌, Option, Some, None, bit_and, bit_or, bit_xor, count_ones, int_le, int_lt, nat_lt, ℤ}
+use Rattle.std.specs.Prelude.{ℕ, ◌+◌, ◌-◌, ◌*◌, ◌/◌, ◌%◌, Bool, cond, if◌then◌else◌, ◌==◌, Option, Some, None, bit_and, bit_or, bit_xor, count_ones, int_le, int_lt, nat_lt, ℤ}
 use Rattle.std.specs.Int.Count.{count_leading_zeros}
 use Rattle.arithmetic.specs.Counts.{without_leading_one}
 use Rattle.arithmetic.specs.Digits.{digit_added, digit_subtracted}
@@ -23,13 +23,13 @@ use Rattle.model.specs.Address.{accumulator, with_accumulator, with_carry, with_
 -- bit 0 is 0: by bits 1-4
 abbrev pub decoded_low : ℕ → Operation
 decoded_low w =
-    cond (w / 2048 % 16 == 0) Jmp
-    (cond (w / 2048 % 16 == 1) Jsr
-    (cond (w / 2048 % 16 == 2) Isz
-    (cond (w / 2048 % 16 == 3) Dsz
-    (cond (nat_lt (w / 2048 % 16) 8) Lda
-    (cond (nat_lt (w / 2048 % 16) 12) Sta
-    InputOutput)))))
+    if w / 2048 % 16 == 0 then Jmp
+    else if w / 2048 % 16 == 1 then Jsr
+    else if w / 2048 % 16 == 2 then Isz
+    else if w / 2048 % 16 == 3 then Dsz
+    else if nat_lt (w / 2048 % 16) 8 then Lda
+    else if nat_lt (w / 2048 % 16) 12 then Sta
+    else InputOutput
 
 -- bit 0 is 1 and bits 12-15 are 010. A code names no accumulator in bits 1-4, or one in bits 3-4, or two; the bits of
 -- those that it names are 0 in the lists below
@@ -40,44 +40,44 @@ abbrev pub without_one : ℕ → ℕ
 without_one w = w / 8192 * 8192 + w % 2048
 
 abbrev pub decoded_none : ℕ → Option Operation
-decoded_none w = cond (w == 0o113410) (Some Lmp) None
+decoded_none w = if w == 0o113410 then Some Lmp else None
 
 abbrev pub decoded_one : ℕ → Option Operation
 decoded_one w =
-    cond (without_one w == 0o143370) (Some Hlv)
-    (cond (without_one w == 0o103770) (Some Iori)
-    (cond (without_one w == 0o123770) (Some Xori)
-    (cond (without_one w == 0o143770) (Some Andi)
-    (cond (without_one w == 0o163770) (Some Addi)
-    (decoded_none w)))))
+    if without_one w == 0o143370 then Some Hlv
+    else if without_one w == 0o103770 then Some Iori
+    else if without_one w == 0o123770 then Some Xori
+    else if without_one w == 0o143770 then Some Andi
+    else if without_one w == 0o163770 then Some Addi
+    else decoded_none w
 
 abbrev pub decoded_two : ℕ → Option Operation
 decoded_two w =
-    cond (without_two w == 0o100010) (Some Adi)
-    (cond (without_two w == 0o100110) (Some Sbi)
-    (cond (without_two w == 0o100210) (Some Dad)
-    (cond (without_two w == 0o100310) (Some Dsb)
-    (cond (without_two w == 0o100410) (Some Ior)
-    (cond (without_two w == 0o100510) (Some Xor)
-    (cond (without_two w == 0o100610) (Some Anc)
-    (cond (without_two w == 0o100710) (Some Xch)
-    (cond (without_two w == 0o101010) (Some Sgt)
-    (cond (without_two w == 0o101110) (Some Sge)
-    (cond (without_two w == 0o101210) (Some Lsh)
-    (cond (without_two w == 0o101310) (Some Dlsh)
-    (cond (without_two w == 0o101410) (Some Hxl)
-    (cond (without_two w == 0o101510) (Some Hxr)
-    (cond (without_two w == 0o101610) (Some Dhxl)
-    (cond (without_two w == 0o101710) (Some Dhxr)
-    (cond (without_two w == 0o102410) (Some Lob)
-    (cond (without_two w == 0o102510) (Some Lrb)
-    (cond (without_two w == 0o102610) (Some Cob)
-    (cond (without_two w == 0o103510) (Some Syc)
-    (decoded_one w))))))))))))))))))))
+    if without_two w == 0o100010 then Some Adi
+    else if without_two w == 0o100110 then Some Sbi
+    else if without_two w == 0o100210 then Some Dad
+    else if without_two w == 0o100310 then Some Dsb
+    else if without_two w == 0o100410 then Some Ior
+    else if without_two w == 0o100510 then Some Xor
+    else if without_two w == 0o100610 then Some Anc
+    else if without_two w == 0o100710 then Some Xch
+    else if without_two w == 0o101010 then Some Sgt
+    else if without_two w == 0o101110 then Some Sge
+    else if without_two w == 0o101210 then Some Lsh
+    else if without_two w == 0o101310 then Some Dlsh
+    else if without_two w == 0o101410 then Some Hxl
+    else if without_two w == 0o101510 then Some Hxr
+    else if without_two w == 0o101610 then Some Dhxl
+    else if without_two w == 0o101710 then Some Dhxr
+    else if without_two w == 0o102410 then Some Lob
+    else if without_two w == 0o102510 then Some Lrb
+    else if without_two w == 0o102610 then Some Cob
+    else if without_two w == 0o103510 then Some Syc
+    else decoded_one w
 
 -- none where the word is not listed
 abbrev pub decoded : ℕ → Option Operation
-decoded w = cond (nat_lt w 32768) (Some (decoded_low w)) (cond (w % 16 == 0o10) (decoded_two w) (Some TwoAccumulator))
+decoded w = if nat_lt w 32768 then Some (decoded_low w) else if w % 16 == 0o10 then decoded_two w else Some TwoAccumulator
 
 -- ---- the operations: r is the registers before, w the word
 
@@ -109,7 +109,7 @@ counted f s r w = do
   at ← effective s r w
   n ← reading at
   _ ← writing at (f n)
-  ret (Next, moved r (cond (f n == 0) 2 1))
+  ret (Next, moved r (if f n == 0 then 2 else 1))
 
 abbrev pub isz : Switches → Registers → ℕ → Effect
 isz = counted raised_by_one
@@ -131,12 +131,12 @@ sta s r w = do
 
 -- bit 12 keeps the result from being loaded
 abbrev pub loading : Registers → ℕ → Wide → Registers
-loading r w x = cond (w / 8 % 2 == 0) (with_carry (with_accumulator r (destination w) x.word) x.carry) r
+loading r w x = if w / 8 % 2 == 0 then with_carry (with_accumulator r (destination w) x.word) x.carry else r
 
 abbrev pub two_accumulator : Registers → ℕ → Outcome × Registers
 two_accumulator r w =
     let x = operated w r.carry (accumulator r (source w)) (accumulator r (destination w)) in
-    (Next, moved (loading r w x) (cond (skipping w x) 2 1))
+    (Next, moved (loading r w x) (if skipping w x then 2 else 1))
 
 -- ---- operations on accumulators alone: s is the source's word and d the destination's
 
@@ -180,7 +180,7 @@ xch r w = (Next, moved (with_accumulator (with_accumulator r (source w) (aimed r
 
 -- the next word is skipped where a comparison of the signed numbers holds
 abbrev pub skip_if : Bool → Registers → Outcome × Registers
-skip_if b r = (Next, moved r (cond b 2 1))
+skip_if b r = (Next, moved r (if b then 2 else 1))
 
 abbrev pub compared : (ℤ → ℤ → Bool) → Registers → ℕ → Outcome × Registers
 compared f r w = skip_if (f (integer (sourced r w)) (integer (aimed r w))) r
@@ -231,7 +231,7 @@ lob = combined (λ s d. (d + count_leading_zeros 16 s) % 65536)
 -- the same, and that one is taken away; of one accumulator no count is taken
 abbrev pub lrb : Registers → ℕ → Outcome × Registers
 lrb r w =
-    let q = cond (source w == destination w) r (with_accumulator r (destination w) ((aimed r w + count_leading_zeros 16 (sourced r w)) % 65536)) in
+    let q = if source w == destination w then r else with_accumulator r (destination w) ((aimed r w + count_leading_zeros 16 (sourced r w)) % 65536) in
     (Next, moved (with_accumulator q (source w) (without_leading_one (sourced r w))) 1)
 
 -- the ones of the source are counted onto the destination

@@ -31,6 +31,7 @@ fn advance<M: Memory>(m: &mut Mapped<'_, M>, r: &mut Registers) -> Turn
 }
 
 /// At most `budget` steps. Whether they are spent is tested before each.
+// One lifetime for both, since a `Mapped` holds both: at two, the check generates no proof.
 #[tactic(auto, using(addressing::proofs::Turns::one_more))]
 pub fn run_steps<'a, M: Memory>(
     map: &'a UserMap,
