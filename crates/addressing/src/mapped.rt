@@ -1,8 +1,9 @@
 //! Loads and stores through a user's map.
 
-ghost use Rattle.std.specs.Prelude.{◌≡◌, ℕ, ◌^◌, ◌<◌};
+ghost use Rattle.std.specs.Prelude.{◌≡◌, ◌<◌};
+ghost use Rattle.addressing.specs.Mapped.{Performs};
 ghost use Rattle.model.specs.Faults.{located};
-ghost use Rattle.model.specs.Access.{reading, writing, perform, loaded, stored, stored_cells, page_at, placed};
+ghost use Rattle.model.specs.Access.{reading, writing, page_at, placed};
 
 use arithmetic::fields::{bits, low};
 use memory::{Memory, MemoryFault};
@@ -13,70 +14,56 @@ fn locate<T>(answer: Result<T, MemoryFault>, physical: usize, logical: u16) -> R
     requires { physical < 1048576 }
     ensures { result ≡ located answer physical logical }
 {
-    match answer {
-        Ok(x) => Ok(x),
-        Err(cause) => Err(Located {
-            cause,
-            physical: physical as u32,
-            logical,
-        }),
-    }
+    answer.map_err(|cause| Located {
+        cause,
+        physical: physical as u32,
+        logical,
+    })
 }
 
 // The upper five of the fifteen bits of an address choose the entry.
 fn find_page(map: &UserMap, at: u16) -> Option<Page>
     ensures { result ≡ page_at map.now at }
 {
-    map.entries[bits(at, 10, 5) as usize]
+    map.entries[usize::from(bits(at, 10, 5))]
 }
 
 fn place(page: Page, at: u16) -> usize
     ensures { result ≡ placed page at }
 {
-    (page.block as usize) * 1024 + low(at, 10) as usize
+    usize::from(page.block) * 1024 + usize::from(low(at, 10))
 }
 
-fn load<M: Memory>(map: &UserMap, memory: &mut M, at: u16) -> Result<u16, MapFault>
-    ensures answer { result ≡ loaded map.now (M.Memory.cells memory.old) at }
-    ensures kept { M.Memory.cells memory.new ≡ M.Memory.cells memory.old }
-{
-    match find_page(map, at) {
-        None => Err(MapFault::Validity(at)),
-        Some(page) => {
-            let place = place(page, at);
-            Ok(locate(memory.read(place), place, at)?)
-        }
+/// A user's map over a memory.
+#[derive(Drop)]
+pub struct Mapped<'a, M> {
+    pub map: &'a UserMap,
+    pub memory: &'a mut M,
+}
+
+impl<M: Memory> Mapped<'_, M> {
+    /// The word at a logical address.
+    #[tactic(auto, unfolding(model::specs::Access::fetching))]
+    pub fn fetch(&mut self, at: u16) -> Result<u16, Fault>
+        ensures { Performs M.Memory.cells self.old self.new result (reading at) }
+    {
+        let page = find_page(self.map, at).ok_or(MapFault::Validity(at))?;
+        let place = place(page, at);
+        let w = locate(self.memory.read(place), place, at).map_err(MapFault::from)?;
+        Ok(w)
     }
-}
 
-fn store<M: Memory>(map: &UserMap, memory: &mut M, at: u16, w: u16) -> Result<(), MapFault>
-    ensures answer { result ≡ stored map.now (M.Memory.cells memory.old) at }
-    ensures after { M.Memory.cells memory.new ≡ stored_cells map.now (M.Memory.cells memory.old) at w }
-{
-    match find_page(map, at) {
-        None => Err(MapFault::Validity(at)),
-        Some(page) => {
-            if map.switches.write && page.protected {
-                return Err(MapFault::Protected(at));
-            }
-            let place = place(page, at);
-            locate(memory.write(place, w), place, at)?;
-            Ok(())
+    /// Writes a word at a logical address.
+    #[tactic(auto, unfolding(model::specs::Access::putting))]
+    pub fn put(&mut self, at: u16, w: u16) -> Result<(), Fault>
+        ensures { Performs M.Memory.cells self.old self.new result (writing at w) }
+    {
+        let page = find_page(self.map, at).ok_or(MapFault::Validity(at))?;
+        if self.map.switches.write && page.protected {
+            return Err(MapFault::Protected(at).into());
         }
+        let place = place(page, at);
+        locate(self.memory.write(place, w), place, at).map_err(MapFault::from)?;
+        Ok(())
     }
-}
-
-/// The word at a logical address.
-pub fn fetch<M: Memory>(map: &UserMap, memory: &mut M, at: u16) -> Result<u16, Fault>
-    ensures { (result, M.Memory.cells memory.new) ≡ perform map.now (M.Memory.cells memory.old) (reading at) }
-{
-    Ok(load(map, memory, at)?)
-}
-
-/// Writes a word at a logical address.
-pub fn put<M: Memory>(map: &UserMap, memory: &mut M, at: u16, w: u16) -> Result<(), Fault>
-    ensures { (result, M.Memory.cells memory.new) ≡ perform map.now (M.Memory.cells memory.old) (writing at w) }
-{
-    store(map, memory, at, w)?;
-    Ok(())
 }

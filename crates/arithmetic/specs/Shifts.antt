@@ -1,5 +1,5 @@
 -- Logical shifts: bits that are shifted out are lost, and zeros come in.
-use Rattle.std.specs.Prelude.{ℕ, ◌+◌, ◌-◌, ◌*◌, ◌/◌, ◌%◌, ◌^◌, cond, nat_lt}
+use Rattle.std.specs.Prelude.{ℕ, ◌+◌, ◌-◌, ◌*◌, ◌/◌, ◌%◌, ◌^◌, if◌then◌else◌, nat_lt}
 use Rattle.arithmetic.specs.declared.shifts.Double.{Double}
 
 -- a number of `width` bits, by n places
@@ -11,7 +11,7 @@ shifted_right n x = x / 2 ^ n
 
 -- n is the byte of a signed number: below 128 so many places to the left, and from 128 on 256 - n places to the right
 abbrev pub shifted_by_signed : ℕ → ℕ → ℕ → ℕ
-shifted_by_signed width n x = cond (nat_lt n 128) (shifted_left width n x) (shifted_right (256 - n) x)
+shifted_by_signed width n x = if nat_lt n 128 then shifted_left width n x else shifted_right (256 - n) x
 
 -- the bits of n + 1 hex digits, where the two lowest bits of n count
 abbrev pub hex_places : ℕ → ℕ

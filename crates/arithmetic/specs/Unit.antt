@@ -1,5 +1,5 @@
 -- The two-accumulator operations, on the number of 17 bits that carry and a word make: carry * 65536 + word.
-use Rattle.std.specs.Prelude.{ℕ, ◌+◌, ◌-◌, ◌*◌, ◌/◌, ◌%◌, Bool, true, false, cond, not, ◌&&◌, ◌||◌, ◌==◌, bit_and, nat_le}
+use Rattle.std.specs.Prelude.{ℕ, ◌+◌, ◌-◌, ◌*◌, ◌/◌, ◌%◌, Bool, true, false, if◌then◌else◌, not, ◌&&◌, ◌||◌, ◌==◌, bit_and, nat_le}
 use Rattle.arithmetic.specs.declared.unit.Wide.{Wide}
 use Rattle.arithmetic.specs.declared.unit.Function.{Function}
 use Rattle.arithmetic.specs.declared.unit.Function.TheVariants.{Com, Neg, Mov, Inc, Adc, Sub, Add, And}
@@ -15,7 +15,7 @@ abbrev pub split : ℕ → Wide
 split n = record { carry = nat_le 65536 (n % 131072); word = n % 65536 }
 
 abbrev pub of_carry : Bool → ℕ
-of_carry b = cond b 65536 0
+of_carry b = if b then 65536 else 0
 
 abbrev pub base_carry : CarryBase → Bool → Bool
 base_carry Keep c = c
@@ -53,16 +53,32 @@ skips_on EitherZero c r = not c || r == 0
 skips_on BothNot c r = c && not (r == 0)
 
 abbrev pub function_of : ℕ → Function
-function_of n = cond (n == 0) Com (cond (n == 1) Neg (cond (n == 2) Mov (cond (n == 3) Inc (cond (n == 4) Adc (cond (n == 5) Sub (cond (n == 6) Add And))))))
+function_of n =
+    if n == 0 then Com
+    else if n == 1 then Neg
+    else if n == 2 then Mov
+    else if n == 3 then Inc
+    else if n == 4 then Adc
+    else if n == 5 then Sub
+    else if n == 6 then Add
+    else And
 
 abbrev pub shift_of : ℕ → Shift
-shift_of n = cond (n == 0) Straight (cond (n == 1) Left (cond (n == 2) Right Swap))
+shift_of n = if n == 0 then Straight else if n == 1 then Left else if n == 2 then Right else Swap
 
 abbrev pub base_of : ℕ → CarryBase
-base_of n = cond (n == 0) Keep (cond (n == 1) Zero (cond (n == 2) One Complement))
+base_of n = if n == 0 then Keep else if n == 1 then Zero else if n == 2 then One else Complement
 
 abbrev pub skip_of : ℕ → Skip
-skip_of n = cond (n == 0) Never (cond (n == 1) Always (cond (n == 2) CarryZero (cond (n == 3) CarryOne (cond (n == 4) ResultZero (cond (n == 5) ResultNot (cond (n == 6) EitherZero BothNot))))))
+skip_of n =
+    if n == 0 then Never
+    else if n == 1 then Always
+    else if n == 2 then CarryZero
+    else if n == 3 then CarryOne
+    else if n == 4 then ResultZero
+    else if n == 5 then ResultNot
+    else if n == 6 then EitherZero
+    else BothNot
 
 -- a two-accumulator word, by its fields
 abbrev pub operated : ℕ → Bool → ℕ → ℕ → Wide

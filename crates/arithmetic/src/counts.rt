@@ -1,6 +1,6 @@
 //! Counts of the bits of a word.
 
-ghost use Rattle.std.specs.Prelude.{◌≡◌, ℕ, ◌+◌, ◌%◌, count_ones};
+ghost use Rattle.std.specs.Prelude.{◌≡◌, ◌+◌, ◌%◌, count_ones};
 ghost use Rattle.std.specs.Int.Count.{count_leading_zeros};
 ghost use Rattle.arithmetic.specs.Counts.{without_leading_one};
 

@@ -1,6 +1,6 @@
 //! Decimal digits, one in the four lowest bits of a word.
 
-ghost use Rattle.std.specs.Prelude.{◌≡◌, ℕ, ◌+◌, ◌*◌, ◌/◌, ◌%◌};
+ghost use Rattle.std.specs.Prelude.{◌≡◌};
 ghost use Rattle.arithmetic.specs.Digits.{digit_added, digit_subtracted, with_digit};
 
 use crate::fields::low;

@@ -1,4 +1,4 @@
-ghost use Rattle.std.specs.Prelude.{◌≡◌, ℕ, ◌/◌, ◌%◌, ◌^◌};
+ghost use Rattle.std.specs.Prelude.{◌≡◌, ◌/◌, ◌%◌, ◌^◌};
 
 /// The lowest `count` bits of a word.
 pub fn low(word: u16, count: u32) -> u16
@@ -15,9 +15,5 @@ pub fn low(word: u16, count: u32) -> u16
 pub fn bits(word: u16, from: u32, count: u32) -> u16
     ensures { result ≡ word / 2 ^ from % 2 ^ count }
 {
-    if from < 16 {
-        low(word >> from, count)
-    } else {
-        0
-    }
+    low(word.unbounded_shr(from), count)
 }

@@ -1,6 +1,6 @@
 //! A bit and a byte of a word, by the pointer to it.
 
-ghost use Rattle.std.specs.Prelude.{◌≡◌, ℕ, ◌%◌};
+ghost use Rattle.std.specs.Prelude.{◌≡◌, ◌%◌};
 ghost use Rattle.arithmetic.specs.Pointers.{weight, bit_is_one, with_one, with_zero, byte_in, with_byte};
 
 use crate::fields::low;
@@ -30,7 +30,7 @@ pub fn set_bit(pointer: u16, word: u16) -> u16
 pub fn clear_bit(pointer: u16, word: u16) -> u16
     ensures { result ≡ with_zero pointer word }
 {
-    word - (word & mask_of(pointer))
+    word & !mask_of(pointer)
 }
 
 /// The byte, which is the high one where the pointer is even.

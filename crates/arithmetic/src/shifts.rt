@@ -1,6 +1,6 @@
 //! Logical shifts of a word and of two: bits that are shifted out are lost, and zeros come in.
 
-ghost use Rattle.std.specs.Prelude.{◌≡◌, ℕ, ◌+◌, ◌*◌, ◌/◌, ◌%◌, ◌^◌};
+ghost use Rattle.std.specs.Prelude.{◌≡◌, ℕ, ◌%◌};
 ghost use Rattle.arithmetic.specs.Shifts.{shifted_left, shifted_right, shifted_by_signed, hex_places, number, halves};
 
 use crate::fields::low;
@@ -12,105 +12,102 @@ pub struct Double {
     pub low: u16,
 }
 
-const WORD_BITS: u16 = 16;
+impl From<Double> for u32 {
+    ghost from_gives = { λ x n. n ≡ number x };
 
-const DOUBLE_BITS: u16 = 32;
-
-fn left(n: u16, d: u16) -> u16
-    ensures { result ≡ shifted_left 16 n d }
-{
-    if n < WORD_BITS { d << n } else { 0 }
+    fn from(x: Double) -> u32 {
+        u32::from(x.high) * 65536 + u32::from(x.low)
+    }
 }
 
-fn right(n: u16, d: u16) -> u16
-    ensures { result ≡ shifted_right n d }
-{
-    if n < WORD_BITS { d >> n } else { 0 }
+impl From<u32> for Double {
+    ghost from_gives = { λ n x. x ≡ halves n };
+
+    fn from(n: u32) -> Double {
+        Double {
+            high: (n / 65536) as u16,
+            low: (n % 65536) as u16,
+        }
+    }
 }
 
-fn wide_left(n: u16, x: u32) -> u32
-    ensures { result ≡ shifted_left 32 n x }
-{
-    if n < DOUBLE_BITS { x << n } else { 0 }
+/// A number of a width in bits, which is shifted by any number of places.
+pub trait Logical: Copy {
+    ghost width: { ℕ };
+
+    // The number that a value is, and the value of a number.
+    ghost number_of: { Self → ℕ };
+
+    ghost of_number: { ℕ → Self };
+
+    fn shifted_left(self, n: u32) -> Self
+        ensures { result ≡ of_number (shifted_left width n (number_of self)) };
+
+    fn shifted_right(self, n: u32) -> Self
+        ensures { result ≡ of_number (shifted_right n (number_of self)) };
 }
 
-fn wide_right(n: u16, x: u32) -> u32
-    ensures { result ≡ shifted_right n x }
-{
-    if n < DOUBLE_BITS { x >> n } else { 0 }
+impl Logical for u16 {
+    ghost width = { 16 };
+
+    ghost number_of = { λ x. x };
+
+    ghost of_number = { λ n. n };
+
+    fn shifted_left(self, n: u32) -> u16 {
+        self.unbounded_shl(n)
+    }
+
+    fn shifted_right(self, n: u32) -> u16 {
+        self.unbounded_shr(n)
+    }
 }
 
-fn joined(x: Double) -> u32
-    ensures { result ≡ number x }
-{
-    u32::from(x.high) * 65536 + u32::from(x.low)
-}
+impl Logical for Double {
+    ghost width = { 32 };
 
-fn parted(x: u32) -> Double
-    ensures { result ≡ halves x }
-{
-    Double {
-        high: (x / 65536) as u16,
-        low: (x % 65536) as u16,
+    ghost number_of = { number };
+
+    ghost of_number = { halves };
+
+    fn shifted_left(self, n: u32) -> Double {
+        Double::from(u32::from(self).unbounded_shl(n))
+    }
+
+    fn shifted_right(self, n: u32) -> Double {
+        Double::from(u32::from(self).unbounded_shr(n))
     }
 }
 
 // The two lowest bits of `n` count.
-fn places(n: u16) -> u16
+fn places(n: u16) -> u32
     ensures { result ≡ hex_places n }
 {
-    4 * (low(n, 2) + 1)
+    u32::from(4 * (low(n, 2) + 1))
 }
 
-/// A word shifted by the signed number in the low byte of `count`: to the left where it is positive, else to the right.
-pub fn shift(count: u16, d: u16) -> u16
-    ensures { result ≡ shifted_by_signed 16 (count % 256) d }
+/// A number shifted by the signed one in the low byte of `count`: to the left where that is positive, else to the right.
+pub fn shift<T: Logical>(count: u16, x: T) -> T
+    ensures { result ≡ T.of_number (shifted_by_signed T.width (count % 256) (T.number_of x)) }
 {
-    let n = low(count, 8);
+    let n = u32::from(low(count, 8));
     if n < 128 {
-        left(n, d)
+        x.shifted_left(n)
     } else {
-        right(256 - n, d)
+        x.shifted_right(256 - n)
     }
 }
 
-/// The same shift of two words.
-pub fn double_shift(count: u16, x: Double) -> Double
-    ensures { result ≡ halves (shifted_by_signed 32 (count % 256) (number x)) }
+/// A number shifted to the left by one to four hex digits.
+pub fn hex_left<T: Logical>(n: u16, x: T) -> T
+    ensures { result ≡ T.of_number (shifted_left T.width (hex_places n) (T.number_of x)) }
 {
-    let n = low(count, 8);
-    let whole = joined(x);
-    parted(if n < 128 {
-        wide_left(n, whole)
-    } else {
-        wide_right(256 - n, whole)
-    })
+    x.shifted_left(places(n))
 }
 
-/// A word shifted to the left by one to four hex digits.
-pub fn hex_left(n: u16, d: u16) -> u16
-    ensures { result ≡ shifted_left 16 (hex_places n) d }
+/// A number shifted to the right by one to four hex digits.
+pub fn hex_right<T: Logical>(n: u16, x: T) -> T
+    ensures { result ≡ T.of_number (shifted_right (hex_places n) (T.number_of x)) }
 {
-    left(places(n), d)
-}
-
-/// A word shifted to the right by one to four hex digits.
-pub fn hex_right(n: u16, d: u16) -> u16
-    ensures { result ≡ shifted_right (hex_places n) d }
-{
-    right(places(n), d)
-}
-
-/// Two words shifted to the left by one to four hex digits.
-pub fn double_hex_left(n: u16, x: Double) -> Double
-    ensures { result ≡ halves (shifted_left 32 (hex_places n) (number x)) }
-{
-    parted(wide_left(places(n), joined(x)))
-}
-
-/// Two words shifted to the right by one to four hex digits.
-pub fn double_hex_right(n: u16, x: Double) -> Double
-    ensures { result ≡ halves (shifted_right (hex_places n) (number x)) }
-{
-    parted(wide_right(places(n), joined(x)))
+    x.shifted_right(places(n))
 }

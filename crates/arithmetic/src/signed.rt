@@ -7,11 +7,7 @@ ghost use Rattle.arithmetic.specs.Signed.{halved, integer};
 pub fn halve(d: u16) -> u16
     ensures { result ≡ halved d }
 {
-    if d < 32768 {
-        d / 2
-    } else {
-        (d.wrapping_neg() / 2).wrapping_neg()
-    }
+    (d.cast_signed() / 2).cast_unsigned()
 }
 
 /// Whether `s` is greater than `d`, as signed numbers.

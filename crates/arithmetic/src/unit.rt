@@ -1,6 +1,6 @@
 //! The two-accumulator operations: a function of two words, with a carry before it and a shift after it.
 
-ghost use Rattle.std.specs.Prelude.{◌≡◌, ℕ, ◌+◌, ◌/◌, ◌%◌, Bool, true, false, cond, not};
+ghost use Rattle.std.specs.Prelude.{◌≡◌, ◌+◌, ◌/◌, ◌%◌};
 ghost use Rattle.arithmetic.specs.Unit.{split, of_carry, computed, base_carry, shifted, skips_on, function_of, shift_of, base_of, skip_of, operated, skipping};
 
 use crate::fields::{bits, low};
@@ -56,130 +56,140 @@ enum Skip {
     BothNot,
 }
 
-// A sum over 65,535 complements the carry.
-fn add(carry: bool, a: u16, b: u16) -> Wide
-    ensures { result ≡ split (of_carry carry + a + b) }
-{
-    let word = a.wrapping_add(b);
-    Wide {
-        carry: carry != (word < a),
-        word,
-    }
-}
-
-fn carry_from(base: CarryBase, carry: bool) -> bool
-    ensures { result ≡ base_carry base carry }
-{
-    match base {
-        CarryBase::Keep => carry,
-        CarryBase::Zero => false,
-        CarryBase::One => true,
-        CarryBase::Complement => !carry,
-    }
-}
-
-fn compute(function: Function, carry: bool, s: u16, d: u16) -> Wide
-    ensures { result ≡ split (computed function (of_carry carry) s d) }
-{
-    match function {
-        Function::Com => Wide { carry, word: !s },
-        Function::Neg => add(carry, !s, 1),
-        Function::Mov => Wide { carry, word: s },
-        Function::Inc => add(carry, s, 1),
-        Function::Adc => add(carry, !s, d),
-        Function::Sub => {
-            let part = add(carry, !s, d);
-            add(part.carry, part.word, 1)
+impl Wide {
+    // A sum over 65,535 complements the carry.
+    fn sum(carry: bool, a: u16, b: u16) -> Wide
+        ensures { result ≡ split (of_carry carry + a + b) }
+    {
+        let word = a.wrapping_add(b);
+        Wide {
+            carry: carry != (word < a),
+            word,
         }
-        Function::Add => add(carry, s, d),
-        Function::And => Wide { carry, word: s & d },
     }
 }
 
-fn shifted_by(shift: Shift, x: Wide) -> Wide
-    ensures { result ≡ split (shifted shift (of_carry x.carry + x.word)) }
-{
-    match shift {
-        Shift::Straight => x,
-        Shift::Left => Wide {
-            carry: x.word >= 32768,
-            word: (x.word << 1) | u16::from(x.carry),
-        },
-        Shift::Right => Wide {
-            carry: low(x.word, 1) == 1,
-            word: (x.word >> 1) | (u16::from(x.carry) << 15),
-        },
-        Shift::Swap => Wide {
-            carry: x.carry,
-            word: x.word.swap_bytes(),
-        },
+impl Function {
+    fn of(word: u16) -> Function
+        ensures { result ≡ function_of (word / 256 % 8) }
+    {
+        match bits(word, 8, 3) {
+            0 => Function::Com,
+            1 => Function::Neg,
+            2 => Function::Mov,
+            3 => Function::Inc,
+            4 => Function::Adc,
+            5 => Function::Sub,
+            6 => Function::Add,
+            _ => Function::And,
+        }
+    }
+
+    fn apply(self, carry: bool, s: u16, d: u16) -> Wide
+        ensures { result ≡ split (computed self (of_carry carry) s d) }
+    {
+        match self {
+            Function::Com => Wide { carry, word: !s },
+            Function::Neg => Wide::sum(carry, !s, 1),
+            Function::Mov => Wide { carry, word: s },
+            Function::Inc => Wide::sum(carry, s, 1),
+            Function::Adc => Wide::sum(carry, !s, d),
+            Function::Sub => {
+                let part = Wide::sum(carry, !s, d);
+                Wide::sum(part.carry, part.word, 1)
+            }
+            Function::Add => Wide::sum(carry, s, d),
+            Function::And => Wide { carry, word: s & d },
+        }
     }
 }
 
-fn skips_by(skip: Skip, x: Wide) -> bool
-    ensures { result ≡ skips_on skip x.carry x.word }
-{
-    match skip {
-        Skip::Never => false,
-        Skip::Always => true,
-        Skip::CarryZero => !x.carry,
-        Skip::CarryOne => x.carry,
-        Skip::ResultZero => x.word == 0,
-        Skip::ResultNot => x.word != 0,
-        Skip::EitherZero => !x.carry || x.word == 0,
-        Skip::BothNot => x.carry && x.word != 0,
+impl Shift {
+    fn of(word: u16) -> Shift
+        ensures { result ≡ shift_of (word / 64 % 4) }
+    {
+        match bits(word, 6, 2) {
+            0 => Shift::Straight,
+            1 => Shift::Left,
+            2 => Shift::Right,
+            _ => Shift::Swap,
+        }
+    }
+
+    fn apply(self, x: Wide) -> Wide
+        ensures { result ≡ split (shifted self (of_carry x.carry + x.word)) }
+    {
+        match self {
+            Shift::Straight => x,
+            Shift::Left => Wide {
+                carry: x.word >= 32768,
+                word: (x.word << 1) | u16::from(x.carry),
+            },
+            Shift::Right => Wide {
+                carry: low(x.word, 1) == 1,
+                word: (x.word >> 1) | (u16::from(x.carry) << 15),
+            },
+            Shift::Swap => Wide {
+                carry: x.carry,
+                word: x.word.swap_bytes(),
+            },
+        }
     }
 }
 
-fn function_field(word: u16) -> Function
-    ensures { result ≡ function_of (word / 256 % 8) }
-{
-    match bits(word, 8, 3) {
-        0 => Function::Com,
-        1 => Function::Neg,
-        2 => Function::Mov,
-        3 => Function::Inc,
-        4 => Function::Adc,
-        5 => Function::Sub,
-        6 => Function::Add,
-        _ => Function::And,
+impl CarryBase {
+    fn of(word: u16) -> CarryBase
+        ensures { result ≡ base_of (word / 16 % 4) }
+    {
+        match bits(word, 4, 2) {
+            0 => CarryBase::Keep,
+            1 => CarryBase::Zero,
+            2 => CarryBase::One,
+            _ => CarryBase::Complement,
+        }
+    }
+
+    fn apply(self, carry: bool) -> bool
+        ensures { result ≡ base_carry self carry }
+    {
+        match self {
+            CarryBase::Keep => carry,
+            CarryBase::Zero => false,
+            CarryBase::One => true,
+            CarryBase::Complement => !carry,
+        }
     }
 }
 
-fn shift_field(word: u16) -> Shift
-    ensures { result ≡ shift_of (word / 64 % 4) }
-{
-    match bits(word, 6, 2) {
-        0 => Shift::Straight,
-        1 => Shift::Left,
-        2 => Shift::Right,
-        _ => Shift::Swap,
+impl Skip {
+    fn of(word: u16) -> Skip
+        ensures { result ≡ skip_of (word % 8) }
+    {
+        match low(word, 3) {
+            0 => Skip::Never,
+            1 => Skip::Always,
+            2 => Skip::CarryZero,
+            3 => Skip::CarryOne,
+            4 => Skip::ResultZero,
+            5 => Skip::ResultNot,
+            6 => Skip::EitherZero,
+            _ => Skip::BothNot,
+        }
     }
-}
 
-fn carry_field(word: u16) -> CarryBase
-    ensures { result ≡ base_of (word / 16 % 4) }
-{
-    match bits(word, 4, 2) {
-        0 => CarryBase::Keep,
-        1 => CarryBase::Zero,
-        2 => CarryBase::One,
-        _ => CarryBase::Complement,
-    }
-}
-
-fn skip_field(word: u16) -> Skip
-    ensures { result ≡ skip_of (word % 8) }
-{
-    match low(word, 3) {
-        0 => Skip::Never,
-        1 => Skip::Always,
-        2 => Skip::CarryZero,
-        3 => Skip::CarryOne,
-        4 => Skip::ResultZero,
-        5 => Skip::ResultNot,
-        6 => Skip::EitherZero,
-        _ => Skip::BothNot,
+    fn holds(self, x: Wide) -> bool
+        ensures { result ≡ skips_on self x.carry x.word }
+    {
+        match self {
+            Skip::Never => false,
+            Skip::Always => true,
+            Skip::CarryZero => !x.carry,
+            Skip::CarryOne => x.carry,
+            Skip::ResultZero => x.word == 0,
+            Skip::ResultNot => x.word != 0,
+            Skip::EitherZero => !x.carry || x.word == 0,
+            Skip::BothNot => x.carry && x.word != 0,
+        }
     }
 }
 
@@ -187,16 +197,14 @@ fn skip_field(word: u16) -> Skip
 pub fn operate(word: u16, carry: bool, s: u16, d: u16) -> Wide
     ensures { result ≡ operated word carry s d }
 {
-    let carry = carry_from(carry_field(word), carry);
-    shifted_by(
-        shift_field(word),
-        compute(function_field(word), carry, s, d),
-    )
+    let carry = CarryBase::of(word).apply(carry);
+    let x = Function::of(word).apply(carry, s, d);
+    Shift::of(word).apply(x)
 }
 
 /// Whether a two-accumulator word with that result skips the next word.
 pub fn skips(word: u16, x: Wide) -> bool
     ensures { result ≡ skipping word x }
 {
-    skips_by(skip_field(word), x)
+    Skip::of(word).holds(x)
 }

@@ -1,164 +1,87 @@
-//! Instructions on accumulators alone, and those whose operand is their second word.
+//! Instructions on accumulators alone, and those whose operand is their second word. Those that differ only in what
+//! they make of their operands take it as a function.
 
-ghost use Rattle.std.specs.Prelude.{◌≡◌, ℕ};
-ghost use Rattle.std.specs.Int.Bits.{bit_and, bit_or, bit_xor};
-ghost use Rattle.arithmetic.specs.Digits.{digit_added, digit_subtracted};
-ghost use Rattle.model.specs.Access.{perform};
-ghost use Rattle.model.specs.Run.{settle};
+ghost use Rattle.std.specs.Prelude.{◌≡◌, ℕ, Bool, Ok, Err, IfOk, IfErr};
+ghost use Rattle.arithmetic.specs.declared.shifts.Double.{Double};
+ghost use Rattle.arithmetic.specs.declared.unit.Wide.{Wide};
+ghost use Rattle.addressing.specs.Mapped.{Performs};
+ghost use Rattle.model.specs.Step.{sourced, aimed, doubled};
 ghost use Rattle.model.specs.Step as step;
 
 use crate::registers::{
     destination_in, destination_of, double_in, load, load_double, move_on, source_in, source_of,
 };
-use addressing::mapped::fetch;
-use arithmetic::counts::{add_leading_zeros, add_ones, reset_leading_one};
-use arithmetic::digits::{add_digit, subtract_digit};
+use addressing::mapped::Mapped;
+use arithmetic::counts::{add_leading_zeros, reset_leading_one};
 use arithmetic::fields::{bits, low};
-use arithmetic::shifts::{
-    double_hex_left, double_hex_right, double_shift, hex_left, hex_right, shift,
-};
-use arithmetic::signed::{halve, is_at_least, is_greater};
+use arithmetic::shifts::Double;
+use arithmetic::unit::Wide;
 use memory::Memory;
-use model::{Fault, Outcome, Registers, UserMap};
+use model::{Fault, Outcome, Registers};
 
 // The immediate field stands where the source does.
-fn immediate_of(word: u16) -> u16
+pub(crate) fn immediate_of(word: u16) -> u16
     ensures { result ≡ step.source word }
 {
     bits(word, 13, 2)
 }
 
-// The immediate field is one less than what is added.
-pub(crate) fn adi(r: &mut Registers, word: u16) -> Outcome
-    ensures { (result, r.new) ≡ step.adi r.old word }
+// The destination becomes what `f` makes of the source and of it.
+pub(crate) fn combine<F: FnOnce(u16, u16) -> u16>(r: &mut Registers, word: u16, f: F) -> Outcome
+    requires { F.pre f (sourced r.old word) (aimed r.old word) }
+    ensures { (x : ℕ) × F.post f (sourced r.old word) (aimed r.old word) x × ((result, r.new) ≡ step.loaded_with r.old word x) }
 {
-    let x = destination_in(r, word).wrapping_add(immediate_of(word) + 1);
+    let x = f(source_in(r, word), destination_in(r, word));
     load(r, word, x)
 }
 
-pub(crate) fn sbi(r: &mut Registers, word: u16) -> Outcome
-    ensures { (result, r.new) ≡ step.sbi r.old word }
+// The same with the carry, which is read and set.
+pub(crate) fn combine_digits<F: FnOnce(bool, u16, u16) -> Wide>(
+    r: &mut Registers,
+    word: u16,
+    f: F,
+) -> Outcome
+    requires { F.pre f r.old.carry (sourced r.old word) (aimed r.old word) }
+    ensures { (x : Wide) × F.post f r.old.carry (sourced r.old word) (aimed r.old word) x × ((result, r.new) ≡ step.with_wide r.old word x) }
 {
-    let x = destination_in(r, word).wrapping_sub(immediate_of(word) + 1);
-    load(r, word, x)
-}
-
-pub(crate) fn dad(r: &mut Registers, word: u16) -> Outcome
-    ensures { (result, r.new) ≡ step.digit digit_added r.old word }
-{
-    let x = add_digit(r.carry, source_in(r, word), destination_in(r, word));
+    let x = f(r.carry, source_in(r, word), destination_in(r, word));
     r.carry = x.carry;
     load(r, word, x.word)
 }
 
-pub(crate) fn dsb(r: &mut Registers, word: u16) -> Outcome
-    ensures { (result, r.new) ≡ step.digit digit_subtracted r.old word }
+// The same with the destination and the accumulator after it.
+pub(crate) fn combine_double<F: FnOnce(u16, Double) -> Double>(
+    r: &mut Registers,
+    word: u16,
+    f: F,
+) -> Outcome
+    requires { F.pre f (sourced r.old word) (doubled r.old word) }
+    ensures { (x : Double) × F.post f (sourced r.old word) (doubled r.old word) x × ((result, r.new) ≡ step.with_double r.old word x) }
 {
-    let x = subtract_digit(r.carry, source_in(r, word), destination_in(r, word));
-    r.carry = x.carry;
-    load(r, word, x.word)
+    let x = f(source_in(r, word), double_in(r, word));
+    load_double(r, word, x)
 }
 
-pub(crate) fn ior(r: &mut Registers, word: u16) -> Outcome
-    ensures { (result, r.new) ≡ step.ior r.old word }
+// The next word is skipped where `holds` does of the source and the destination.
+pub(crate) fn compare<F: FnOnce(u16, u16) -> bool>(
+    r: &mut Registers,
+    word: u16,
+    holds: F,
+) -> Outcome
+    requires { F.pre holds (sourced r.old word) (aimed r.old word) }
+    ensures { (b : Bool) × F.post holds (sourced r.old word) (aimed r.old word) b × ((result, r.new) ≡ step.skip_if b r.old) }
 {
-    let x = source_in(r, word) | destination_in(r, word);
-    load(r, word, x)
-}
-
-pub(crate) fn xor(r: &mut Registers, word: u16) -> Outcome
-    ensures { (result, r.new) ≡ step.xor r.old word }
-{
-    let x = source_in(r, word) ^ destination_in(r, word);
-    load(r, word, x)
-}
-
-pub(crate) fn anc(r: &mut Registers, word: u16) -> Outcome
-    ensures { (result, r.new) ≡ step.anc r.old word }
-{
-    let x = !source_in(r, word) & destination_in(r, word);
-    load(r, word, x)
+    let skips = holds(source_in(r, word), destination_in(r, word));
+    move_on(r, if skips { 2 } else { 1 });
+    Outcome::Next
 }
 
 pub(crate) fn xch(r: &mut Registers, word: u16) -> Outcome
     ensures { (result, r.new) ≡ step.xch r.old word }
 {
     let s = source_in(r, word);
-    let d = destination_in(r, word);
-    r.ac[source_of(word)] = d;
+    r.ac[source_of(word)] = destination_in(r, word);
     load(r, word, s)
-}
-
-pub(crate) fn sgt(r: &mut Registers, word: u16) -> Outcome
-    ensures { (result, r.new) ≡ step.sgt r.old word }
-{
-    let skips = is_greater(source_in(r, word), destination_in(r, word));
-    move_on(r, if skips { 2 } else { 1 });
-    Outcome::Next
-}
-
-pub(crate) fn sge(r: &mut Registers, word: u16) -> Outcome
-    ensures { (result, r.new) ≡ step.sge r.old word }
-{
-    let skips = is_at_least(source_in(r, word), destination_in(r, word));
-    move_on(r, if skips { 2 } else { 1 });
-    Outcome::Next
-}
-
-pub(crate) fn lsh(r: &mut Registers, word: u16) -> Outcome
-    ensures { (result, r.new) ≡ step.lsh r.old word }
-{
-    let x = shift(source_in(r, word), destination_in(r, word));
-    load(r, word, x)
-}
-
-pub(crate) fn hxl(r: &mut Registers, word: u16) -> Outcome
-    ensures { (result, r.new) ≡ step.hxl r.old word }
-{
-    let x = hex_left(immediate_of(word), destination_in(r, word));
-    load(r, word, x)
-}
-
-pub(crate) fn hxr(r: &mut Registers, word: u16) -> Outcome
-    ensures { (result, r.new) ≡ step.hxr r.old word }
-{
-    let x = hex_right(immediate_of(word), destination_in(r, word));
-    load(r, word, x)
-}
-
-pub(crate) fn dlsh(r: &mut Registers, word: u16) -> Outcome
-    ensures { (result, r.new) ≡ step.dlsh r.old word }
-{
-    let x = double_shift(source_in(r, word), double_in(r, word));
-    load_double(r, word, x)
-}
-
-pub(crate) fn dhxl(r: &mut Registers, word: u16) -> Outcome
-    ensures { (result, r.new) ≡ step.dhxl r.old word }
-{
-    let x = double_hex_left(immediate_of(word), double_in(r, word));
-    load_double(r, word, x)
-}
-
-pub(crate) fn dhxr(r: &mut Registers, word: u16) -> Outcome
-    ensures { (result, r.new) ≡ step.dhxr r.old word }
-{
-    let x = double_hex_right(immediate_of(word), double_in(r, word));
-    load_double(r, word, x)
-}
-
-pub(crate) fn lob(r: &mut Registers, word: u16) -> Outcome
-    ensures { (result, r.new) ≡ step.lob r.old word }
-{
-    let x = add_leading_zeros(source_in(r, word), destination_in(r, word));
-    load(r, word, x)
-}
-
-pub(crate) fn cob(r: &mut Registers, word: u16) -> Outcome
-    ensures { (result, r.new) ≡ step.cob r.old word }
-{
-    let x = add_ones(source_in(r, word), destination_in(r, word));
-    load(r, word, x)
 }
 
 // Of one accumulator no count is taken.
@@ -174,13 +97,6 @@ pub(crate) fn lrb(r: &mut Registers, word: u16) -> Outcome
     Outcome::Next
 }
 
-pub(crate) fn hlv(r: &mut Registers, word: u16) -> Outcome
-    ensures { (result, r.new) ≡ step.hlv r.old word }
-{
-    let x = halve(destination_in(r, word));
-    load(r, word, x)
-}
-
 // Nothing is loaded into the map by a user.
 pub(crate) fn pass(r: &mut Registers) -> Outcome
     ensures { (result, r.new) ≡ step.lmp r.old }
@@ -190,68 +106,26 @@ pub(crate) fn pass(r: &mut Registers) -> Outcome
 }
 
 // The word behind the instruction.
-fn second_word<M: Memory>(map: &UserMap, memory: &mut M, r: &Registers) -> Result<u16, Fault>
-    ensures { (result, M.Memory.cells memory.new) ≡ perform map.now (M.Memory.cells memory.old) (step.second r.now) }
+fn second_word<M: Memory>(m: &mut Mapped<'_, M>, r: &Registers) -> Result<u16, Fault>
+    ensures { Performs M.Memory.cells m.old m.new result (step.second r.now) }
 {
-    fetch(map, memory, low(r.pc.wrapping_add(1), 15))
+    m.fetch(low(r.pc.wrapping_add(1), 15))
 }
 
-fn load_past(r: &mut Registers, word: u16, x: u16) -> Outcome
-    ensures { (result, r.new) ≡ step.loaded_past r.old word x }
+// The destination becomes what `f` makes of that word and of it.
+pub(crate) fn immediate<M: Memory, F: FnOnce(u16, u16) -> u16>(
+    m: &mut Mapped<'_, M>,
+    r: &mut Registers,
+    word: u16,
+    f: F,
+) -> Result<Outcome, Fault>
+    requires { F.IsAlwaysCallable f }
+    ensures ok { IfOk result (λ o. (i x : ℕ) × Performs M.Memory.cells m.old m.new (Ok i) (step.second r.old) × F.post f i (aimed r.old word) x
+        × ((o, r.new) ≡ step.loaded_past r.old word x)) }
+    ensures err { IfErr result (λ e. Performs M.Memory.cells m.old m.new (Err e) (step.second r.old) × (r.new ≡ r.old)) }
 {
-    r.ac[destination_of(word)] = x;
+    let i = second_word(m, r)?;
+    r.ac[destination_of(word)] = f(i, destination_in(r, word));
     move_on(r, 2);
-    Outcome::Next
-}
-
-pub(crate) fn iori<M: Memory>(
-    map: &UserMap,
-    memory: &mut M,
-    r: &mut Registers,
-    word: u16,
-) -> Result<Outcome, Fault>
-    ensures { (result, r.new, M.Memory.cells memory.new) ≡ settle r.old (perform map.now (M.Memory.cells memory.old) (step.immediate bit_or r.old word)) }
-{
-    let i = second_word(map, memory, r)?;
-    let x = i | destination_in(r, word);
-    Ok(load_past(r, word, x))
-}
-
-pub(crate) fn xori<M: Memory>(
-    map: &UserMap,
-    memory: &mut M,
-    r: &mut Registers,
-    word: u16,
-) -> Result<Outcome, Fault>
-    ensures { (result, r.new, M.Memory.cells memory.new) ≡ settle r.old (perform map.now (M.Memory.cells memory.old) (step.immediate bit_xor r.old word)) }
-{
-    let i = second_word(map, memory, r)?;
-    let x = i ^ destination_in(r, word);
-    Ok(load_past(r, word, x))
-}
-
-pub(crate) fn andi<M: Memory>(
-    map: &UserMap,
-    memory: &mut M,
-    r: &mut Registers,
-    word: u16,
-) -> Result<Outcome, Fault>
-    ensures { (result, r.new, M.Memory.cells memory.new) ≡ settle r.old (perform map.now (M.Memory.cells memory.old) (step.immediate bit_and r.old word)) }
-{
-    let i = second_word(map, memory, r)?;
-    let x = i & destination_in(r, word);
-    Ok(load_past(r, word, x))
-}
-
-pub(crate) fn addi<M: Memory>(
-    map: &UserMap,
-    memory: &mut M,
-    r: &mut Registers,
-    word: u16,
-) -> Result<Outcome, Fault>
-    ensures { (result, r.new, M.Memory.cells memory.new) ≡ settle r.old (perform map.now (M.Memory.cells memory.old) (step.immediate step.added r.old word)) }
-{
-    let i = second_word(map, memory, r)?;
-    let x = i.wrapping_add(destination_in(r, word));
-    Ok(load_past(r, word, x))
+    Ok(Outcome::Next)
 }

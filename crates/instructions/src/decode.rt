@@ -33,33 +33,30 @@ fn code_of_one(word: u16) -> u16
     bits(word, 13, 3) * 8192 + low(word, 11)
 }
 
-fn decode_none(word: u16) -> Operation
+fn decode_none(word: u16) -> Option<Operation>
     ensures { result ≡ decoded_none word }
 {
-    match word {
-        0o113410 => Operation::Lmp,
-        _ => Operation::Unlisted,
-    }
+    (word == 0o113410).then_some(Operation::Lmp)
 }
 
-fn decode_one(word: u16) -> Operation
+fn decode_one(word: u16) -> Option<Operation>
     ensures { result ≡ decoded_one word }
 {
-    match code_of_one(word) {
+    Some(match code_of_one(word) {
         0o143370 => Operation::Hlv,
         0o103770 => Operation::Iori,
         0o123770 => Operation::Xori,
         0o143770 => Operation::Andi,
         0o163770 => Operation::Addi,
-        _ => decode_none(word),
-    }
+        _ => return decode_none(word),
+    })
 }
 
 // Bit 0 is 1 and bits 12-15 are 010.
-fn decode_two(word: u16) -> Operation
+fn decode_two(word: u16) -> Option<Operation>
     ensures { result ≡ decoded_two word }
 {
-    match code_of_two(word) {
+    Some(match code_of_two(word) {
         0o100010 => Operation::Adi,
         0o100110 => Operation::Sbi,
         0o100210 => Operation::Dad,
@@ -80,19 +77,19 @@ fn decode_two(word: u16) -> Operation
         0o102510 => Operation::Lrb,
         0o102610 => Operation::Cob,
         0o103510 => Operation::Syc,
-        _ => decode_one(word),
-    }
+        _ => return decode_one(word),
+    })
 }
 
-/// What a word asks for.
-pub(crate) fn decode(word: u16) -> Operation
+/// What a word asks for, if it is listed.
+pub(crate) fn decode(word: u16) -> Option<Operation>
     ensures { result ≡ decoded word }
 {
     if word < 32768 {
-        decode_low(word)
+        Some(decode_low(word))
     } else if low(word, 4) == 0o10 {
         decode_two(word)
     } else {
-        Operation::TwoAccumulator
+        Some(Operation::TwoAccumulator)
     }
 }

@@ -1,110 +1,80 @@
 //! The instructions. Each changes the registers only after its last access, so that one which is not completed
 //! leaves them as they were.
 
-ghost use Rattle.std.specs.Prelude.{◌≡◌, ℕ, ◌+◌, ◌%◌, ◌<◌};
-ghost use Rattle.model.specs.Access.{perform};
-ghost use Rattle.model.specs.Address.{moved};
-ghost use Rattle.model.specs.Step.{source, destination, jmp as jumping, jsr as calling, counted, lda as loading_one, sta as storing_one, two_accumulator, syc as asking, input_output, operation, instruction};
-ghost use Rattle.model.specs.Run.{settle};
+ghost use Rattle.std.specs.Prelude.{◌≡◌, ◌+◌, ◌%◌};
+ghost use Rattle.instructions.specs.Settled.{Settles};
+ghost use Rattle.model.specs.Step as step;
 
 use crate::accumulators::{
-    addi, adi, anc, andi, cob, dad, dhxl, dhxr, dlsh, dsb, hlv, hxl, hxr, ior, iori, lob, lrb, lsh,
-    pass, sbi, sge, sgt, xch, xor, xori,
+    combine, combine_digits, combine_double, compare, immediate, immediate_of, lrb, pass, xch,
 };
 use crate::decode::decode;
-use crate::registers::{destination_of, move_on, source_of};
-use addressing::address::find;
-use addressing::mapped::{fetch, put};
+use crate::registers::{destination_in, destination_of, load, move_on, source_in};
+use addressing::mapped::Mapped;
+use arithmetic::counts::{add_leading_zeros, add_ones};
+use arithmetic::digits::{add_digit, subtract_digit};
 use arithmetic::fields::{bits, low};
+use arithmetic::shifts::{hex_left, hex_right, shift};
+use arithmetic::signed::{halve, is_at_least, is_greater};
 use arithmetic::unit::{operate, skips};
 use memory::Memory;
-use model::{Fault, Operation, Outcome, Registers, UserMap};
+use model::{Fault, Operation, Outcome, Registers};
 
-fn jmp<M: Memory>(
-    map: &UserMap,
-    memory: &mut M,
-    r: &mut Registers,
-    word: u16,
-) -> Result<Outcome, Fault>
-    ensures { (result, r.new, M.Memory.cells memory.new) ≡ settle r.old (perform map.now (M.Memory.cells memory.old) (jumping map.now.switches r.old word)) }
+fn jmp<M: Memory>(m: &mut Mapped<'_, M>, r: &mut Registers, word: u16) -> Result<Outcome, Fault>
+    ensures { Settles M.Memory.cells m.old m.new r.old r.new result (step.jmp m.old.map.now.switches r.old word) }
 {
-    let at = find(map, memory, r, word)?;
-    r.pc = at;
+    r.pc = m.find(r, word)?;
     Ok(Outcome::Next)
 }
 
-fn jsr<M: Memory>(
-    map: &UserMap,
-    memory: &mut M,
-    r: &mut Registers,
-    word: u16,
-) -> Result<Outcome, Fault>
-    ensures { (result, r.new, M.Memory.cells memory.new) ≡ settle r.old (perform map.now (M.Memory.cells memory.old) (calling map.now.switches r.old word)) }
+fn jsr<M: Memory>(m: &mut Mapped<'_, M>, r: &mut Registers, word: u16) -> Result<Outcome, Fault>
+    ensures { Settles M.Memory.cells m.old m.new r.old r.new result (step.jsr m.old.map.now.switches r.old word) }
 {
-    let at = find(map, memory, r, word)?;
+    let at = m.find(r, word)?;
     move_on(r, 1);
-    let back = r.pc;
-    r.ac[3] = back;
+    r.ac[3] = r.pc;
     r.pc = at;
     Ok(Outcome::Next)
 }
 
 // A word is counted up or down, by 1 or by 0177777, and the next one skipped where the count comes to 0.
 fn count<M: Memory>(
-    map: &UserMap,
-    memory: &mut M,
+    m: &mut Mapped<'_, M>,
     r: &mut Registers,
     word: u16,
     by: u16,
 ) -> Result<Outcome, Fault>
-    ensures { (result, r.new, M.Memory.cells memory.new) ≡ settle r.old (perform map.now (M.Memory.cells memory.old) (counted (λ n. (n + by) % 65536) map.now.switches r.old word)) }
+    ensures { Settles M.Memory.cells m.old m.new r.old r.new result (step.counted (λ n. (n + by) % 65536) m.old.map.now.switches r.old word) }
 {
-    let at = find(map, memory, r, word)?;
-    let n = fetch(map, memory, at)?.wrapping_add(by);
-    put(map, memory, at, n)?;
+    let at = m.find(r, word)?;
+    let n = m.fetch(at)?.wrapping_add(by);
+    m.put(at, n)?;
     move_on(r, if n == 0 { 2 } else { 1 });
     Ok(Outcome::Next)
 }
 
-fn lda<M: Memory>(
-    map: &UserMap,
-    memory: &mut M,
-    r: &mut Registers,
-    word: u16,
-) -> Result<Outcome, Fault>
-    ensures { (result, r.new, M.Memory.cells memory.new) ≡ settle r.old (perform map.now (M.Memory.cells memory.old) (loading_one map.now.switches r.old word)) }
+fn lda<M: Memory>(m: &mut Mapped<'_, M>, r: &mut Registers, word: u16) -> Result<Outcome, Fault>
+    ensures { Settles M.Memory.cells m.old m.new r.old r.new result (step.lda m.old.map.now.switches r.old word) }
 {
-    let at = find(map, memory, r, word)?;
-    let n = fetch(map, memory, at)?;
-    r.ac[destination_of(word)] = n;
-    move_on(r, 1);
-    Ok(Outcome::Next)
+    let at = m.find(r, word)?;
+    let n = m.fetch(at)?;
+    Ok(load(r, word, n))
 }
 
-fn sta<M: Memory>(
-    map: &UserMap,
-    memory: &mut M,
-    r: &mut Registers,
-    word: u16,
-) -> Result<Outcome, Fault>
-    ensures { (result, r.new, M.Memory.cells memory.new) ≡ settle r.old (perform map.now (M.Memory.cells memory.old) (storing_one map.now.switches r.old word)) }
+fn sta<M: Memory>(m: &mut Mapped<'_, M>, r: &mut Registers, word: u16) -> Result<Outcome, Fault>
+    ensures { Settles M.Memory.cells m.old m.new r.old r.new result (step.sta m.old.map.now.switches r.old word) }
 {
-    let at = find(map, memory, r, word)?;
-    put(map, memory, at, r.ac[destination_of(word)])?;
+    let at = m.find(r, word)?;
+    m.put(at, destination_in(r, word))?;
     move_on(r, 1);
     Ok(Outcome::Next)
 }
 
 // Bit 12 keeps the result from being loaded.
 fn two(r: &mut Registers, word: u16) -> Outcome
-    ensures { (result, r.new) ≡ two_accumulator r.old word }
+    ensures { (result, r.new) ≡ step.two_accumulator r.old word }
 {
-    let x = operate(
-        word,
-        r.carry,
-        r.ac[source_of(word)],
-        r.ac[destination_of(word)],
-    );
+    let x = operate(word, r.carry, source_in(r, word), destination_in(r, word));
     if bits(word, 3, 1) == 0 {
         r.ac[destination_of(word)] = x.word;
         r.carry = x.carry;
@@ -115,74 +85,69 @@ fn two(r: &mut Registers, word: u16) -> Outcome
 
 // The supervisor is called; the PC stands behind the word.
 fn syc(r: &mut Registers) -> Outcome
-    ensures { (result, r.new) ≡ asking r.old }
+    ensures { (result, r.new) ≡ step.syc r.old }
 {
     move_on(r, 1);
     Outcome::Called
 }
 
 fn execute<M: Memory>(
-    map: &UserMap,
-    memory: &mut M,
+    m: &mut Mapped<'_, M>,
     r: &mut Registers,
     op: Operation,
     word: u16,
 ) -> Result<Outcome, Fault>
-    ensures { (result, r.new, M.Memory.cells memory.new) ≡ settle r.old (perform map.now (M.Memory.cells memory.old) (operation map.now.switches r.old op word)) }
+    ensures { Settles M.Memory.cells m.old m.new r.old r.new result (step.operation m.old.map.now.switches r.old op word) }
 {
-    match op {
-        Operation::Jmp => jmp(map, memory, r, word),
-        Operation::Jsr => jsr(map, memory, r, word),
-        Operation::Isz => count(map, memory, r, word, 1),
-        Operation::Dsz => count(map, memory, r, word, 0o177777),
-        Operation::Lda => lda(map, memory, r, word),
-        Operation::Sta => sta(map, memory, r, word),
-        Operation::InputOutput => {
-            if map.switches.lef {
-                Err(Fault::Code)
-            } else {
-                Err(Fault::Device)
-            }
-        }
-        Operation::TwoAccumulator => Ok(two(r, word)),
-        Operation::Adi => Ok(adi(r, word)),
-        Operation::Sbi => Ok(sbi(r, word)),
-        Operation::Dad => Ok(dad(r, word)),
-        Operation::Dsb => Ok(dsb(r, word)),
-        Operation::Ior => Ok(ior(r, word)),
-        Operation::Xor => Ok(xor(r, word)),
-        Operation::Anc => Ok(anc(r, word)),
-        Operation::Xch => Ok(xch(r, word)),
-        Operation::Sgt => Ok(sgt(r, word)),
-        Operation::Sge => Ok(sge(r, word)),
-        Operation::Lsh => Ok(lsh(r, word)),
-        Operation::Dlsh => Ok(dlsh(r, word)),
-        Operation::Hxl => Ok(hxl(r, word)),
-        Operation::Hxr => Ok(hxr(r, word)),
-        Operation::Dhxl => Ok(dhxl(r, word)),
-        Operation::Dhxr => Ok(dhxr(r, word)),
-        Operation::Lob => Ok(lob(r, word)),
-        Operation::Lrb => Ok(lrb(r, word)),
-        Operation::Cob => Ok(cob(r, word)),
-        Operation::Hlv => Ok(hlv(r, word)),
-        Operation::Iori => iori(map, memory, r, word),
-        Operation::Xori => xori(map, memory, r, word),
-        Operation::Andi => andi(map, memory, r, word),
-        Operation::Addi => addi(map, memory, r, word),
-        Operation::Lmp => Ok(pass(r)),
-        Operation::Syc => Ok(syc(r)),
-        Operation::Unlisted => Err(Fault::Code),
-    }
+    let n = immediate_of(word);
+    Ok(match op {
+        Operation::Jmp => jmp(m, r, word)?,
+        Operation::Jsr => jsr(m, r, word)?,
+        Operation::Isz => count(m, r, word, 1)?,
+        Operation::Dsz => count(m, r, word, 0o177777)?,
+        Operation::Lda => lda(m, r, word)?,
+        Operation::Sta => sta(m, r, word)?,
+        Operation::InputOutput if m.map.switches.lef => return Err(Fault::Code),
+        Operation::InputOutput => return Err(Fault::Device),
+        Operation::TwoAccumulator => two(r, word),
+        Operation::Adi => combine(r, word, |_, d| d.wrapping_add(n + 1)),
+        Operation::Sbi => combine(r, word, |_, d| d.wrapping_sub(n + 1)),
+        Operation::Dad => combine_digits(r, word, add_digit),
+        Operation::Dsb => combine_digits(r, word, subtract_digit),
+        Operation::Ior => combine(r, word, |s, d| s | d),
+        Operation::Xor => combine(r, word, |s, d| s ^ d),
+        Operation::Anc => combine(r, word, |s, d| !s & d),
+        Operation::Xch => xch(r, word),
+        Operation::Sgt => compare(r, word, is_greater),
+        Operation::Sge => compare(r, word, is_at_least),
+        Operation::Lsh => combine(r, word, shift),
+        Operation::Dlsh => combine_double(r, word, shift),
+        Operation::Hxl => combine(r, word, |_, d| hex_left(n, d)),
+        Operation::Hxr => combine(r, word, |_, d| hex_right(n, d)),
+        Operation::Dhxl => combine_double(r, word, |_, x| hex_left(n, x)),
+        Operation::Dhxr => combine_double(r, word, |_, x| hex_right(n, x)),
+        Operation::Lob => combine(r, word, add_leading_zeros),
+        Operation::Lrb => lrb(r, word),
+        Operation::Cob => combine(r, word, add_ones),
+        Operation::Hlv => combine(r, word, |_, d| halve(d)),
+        Operation::Iori => immediate(m, r, word, |i, d| i | d)?,
+        Operation::Xori => immediate(m, r, word, |i, d| i ^ d)?,
+        Operation::Andi => immediate(m, r, word, |i, d| i & d)?,
+        Operation::Addi => immediate(m, r, word, |i, d| i.wrapping_add(d))?,
+        Operation::Lmp => pass(r),
+        Operation::Syc => syc(r),
+    })
 }
 
 /// Carries a word out.
+#[tactic(auto, unfolding(model::specs::Step::instruction))]
 pub fn carry_out<M: Memory>(
-    map: &UserMap,
-    memory: &mut M,
+    m: &mut Mapped<'_, M>,
     r: &mut Registers,
     word: u16,
 ) -> Result<Outcome, Fault>
-    ensures { (result, r.new, M.Memory.cells memory.new) ≡ settle r.old (perform map.now (M.Memory.cells memory.old) (instruction map.now.switches r.old word)) }
+    ensures { Settles M.Memory.cells m.old m.new r.old r.new result (step.instruction m.old.map.now.switches r.old word) }
 {
-    execute(map, memory, r, decode(word), word)
+    let op = decode(word).ok_or(Fault::Code)?;
+    execute(m, r, op, word)
 }

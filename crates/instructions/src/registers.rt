@@ -1,6 +1,6 @@
 //! The accumulators that a word names, and the PC.
 
-ghost use Rattle.std.specs.Prelude.{◌≡◌, ℕ, ◌<◌};
+ghost use Rattle.std.specs.Prelude.{◌≡◌, ◌<◌};
 ghost use Rattle.model.specs.Address.{moved};
 ghost use Rattle.model.specs.Step.{source, destination, sourced, aimed, loaded_with, doubled, with_double};
 

@@ -1,5 +1,5 @@
 -- Where an instruction's operand is: bases, displacements and indirect chains.
-use Rattle.std.specs.Prelude.{ℕ, zero, suc, ◌+◌, ◌-◌, ◌/◌, ◌%◌, Bool, cond, ◌&&◌, ◌==◌, nat_le, nat_lt, slice_index, slice_set}
+use Rattle.std.specs.Prelude.{ℕ, zero, suc, ◌+◌, ◌-◌, ◌/◌, ◌%◌, Bool, cond, if◌then◌else◌, ◌&&◌, ◌==◌, nat_le, nat_lt, slice_index, slice_set}
 use Rattle.model.specs.declared.user.Registers.{Registers}
 use Rattle.model.specs.declared.user.Switches.{Switches}
 use Rattle.model.specs.Faults.{chain}
@@ -27,20 +27,20 @@ moved r n = with_pc r ((r.pc + n) % 32768)
 
 -- a displacement of eight bits, signed: from 0200 on it stands for itself less 0400
 abbrev pub displaced : ℕ → ℕ → ℕ
-displaced b d = cond (nat_lt d 128) ((b + d) % 32768) ((b + d + 32768 - 256) % 32768)
+displaced b d = if nat_lt d 128 then (b + d) % 32768 else (b + d + 32768 - 256) % 32768
 
 -- bits 6-7 of the word give the base: none, the instruction's address, AC2 or AC3; bits 8-15 are the displacement
 abbrev pub first_address : Registers → ℕ → ℕ
 first_address r w =
-    cond (w / 256 % 4 == 0) (w % 256)
-    (cond (w / 256 % 4 == 1) (displaced r.pc (w % 256))
-    (displaced (accumulator r (w / 256 % 4)) (w % 256)))
+    if w / 256 % 4 == 0 then w % 256
+    else if w / 256 % 4 == 1 then displaced r.pc (w % 256)
+    else displaced (accumulator r (w / 256 % 4)) (w % 256)
 
 -- ---- indirect chains
 
 -- the 17th fetch of a chain is one too many; with indirect protection off, the 4,097th
 abbrev pub chain_limit : Switches → ℕ
-chain_limit s = cond s.indirect 16 4096
+chain_limit s = if s.indirect then 16 else 4096
 
 -- an automatic location: 020-027 are raised and 030-037 lowered by one and written back before use
 abbrev pub raised_by_one : ℕ → ℕ
@@ -54,7 +54,8 @@ replaced a w = do
   _ ← writing a w
   ret w
 
--- one fetch of a chain: the new value of an automatic location gives address and bit 0
+-- one fetch of a chain: the new value of an automatic location gives address and bit 0. `cond` stands where the values
+-- are accesses, a type above those that `if` chooses between
 abbrev pub link : ℕ → Access ℕ
 link a = do
   w ← reading a

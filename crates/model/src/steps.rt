@@ -37,7 +37,6 @@ pub enum Operation {
     Addi,
     Lmp,
     Syc,
-    Unlisted,
 }
 
 /// What a completed instruction comes to: the program goes on, or it has called the supervisor.
