@@ -6,6 +6,7 @@ use Rattle.model.specs.declared.denial.Denial.{Denial}
 use Rattle.model.specs.declared.denial.Denial.TheVariants as denial
 use Rattle.model.specs.declared.fault.Fault.{Fault}
 use Rattle.model.specs.declared.fault.Fault.TheVariants as fault
+use Rattle.model.specs.declared.fault.MapFault.TheVariants as map
 use Rattle.model.specs.declared.stop.Stop.{Stop}
 use Rattle.model.specs.declared.stop.Stop.TheVariants as stop
 use Rattle.model.specs.declared.stop.StopValues.{StopValues}
@@ -30,10 +31,10 @@ stop_values reason address word logical physical cause =
 
 -- a step that was not completed, of the instruction at a with the word w
 abbrev pub by_fault : ℕ → ℕ → Fault → StopValues
-by_fault a w (fault.Validity l) = stop_values 12 a w l 0 0
-by_fault a w (fault.Protected l) = stop_values 13 a w l 0 0
+by_fault a w (fault.Map (map.Validity l)) = stop_values 12 a w l 0 0
+by_fault a w (fault.Map (map.Protected l)) = stop_values 13 a w l 0 0
 by_fault a w (fault.Chain l) = stop_values 14 a w l 0 0
-by_fault a w (fault.Memory e) = stop_values 15 a w e.logical e.physical (fault_number e.cause)
+by_fault a w (fault.Map (map.Memory e)) = stop_values 15 a w e.logical e.physical (fault_number e.cause)
 by_fault a w fault.Device = stop_values 16 a w 0 0 0
 by_fault a w fault.Stack = stop_values 17 a w 0 0 0
 by_fault a w fault.Code = stop_values 18 a w 0 0 0
