@@ -1,5 +1,6 @@
 -- The number of each denial, and the numbers of each stop: all of them, in this one place.
-use Rattle.std.specs.Prelude.{ℕ, Some, None, Option}
+use Rattle.std.specs.Prelude.{ℕ, false, List, ◌++◌, Some, None, Option, codes, decimal}
+use Rattle.std.specs.Fmt.{digits}
 use Rattle.memory.specs.Numbers.{fault_number, wrong_size_number}
 use Rattle.memory.specs.declared.fault.MemoryFault.{MemoryFault}
 use Rattle.model.specs.declared.denial.Denial.{Denial}
@@ -49,3 +50,16 @@ values_of (stop.Faulted a w e) = by_fault a w e
 abbrev pub latest_values : Option Stop → StopValues
 latest_values None = stop_values 0 0 0 0 0 0
 latest_values (Some s) = values_of s
+
+-- the text of a stop's numbers, its reason and its cause in decimal digits and the others in octal digits
+abbrev pub octal : ℕ → List ℕ
+octal n = digits 8 false n
+
+abbrev pub stop_text : StopValues → List ℕ
+stop_text s =
+    codes "stop " ++ (decimal s.reason
+    ++ (codes ": address " ++ (octal s.address
+    ++ (codes ", word " ++ (octal s.word
+    ++ (codes ", logical " ++ (octal s.logical
+    ++ (codes ", physical " ++ (octal s.physical
+    ++ (codes ", cause " ++ decimal s.cause))))))))))

@@ -1,5 +1,5 @@
-ghost use Rattle.std.specs.Prelude.{◌≡◌};
-ghost use Rattle.model.specs.Numbers.{values_of, by_fault, latest_values};
+ghost use Rattle.std.specs.Prelude.{◌≡◌, Some};
+ghost use Rattle.model.specs.Numbers.{values_of, by_fault, latest_values, stop_text};
 
 use crate::fault::{Fault, MapFault};
 use std::fmt;
@@ -51,8 +51,9 @@ impl StopValues {
     }
 }
 
-// No `output` states this text: the search for its proof ends at its limits.
 impl fmt::Display for StopValues {
+    ghost output = { λ s. Some (stop_text s) };
+
     fn fmt<W: fmt::Write>(&self, f: &mut fmt::Formatter<W>) -> fmt::Result {
         let StopValues {
             reason,
