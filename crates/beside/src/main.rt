@@ -2,11 +2,10 @@
 
 #![tactic(auto)]
 
-use anyhow::anyhow;
 use machine::compare::{Difference, compare};
 use machine::{Ended, Held, Machine, Permit};
 use memory::{Memory, PlainCore};
-use model::{Denial, Registers, Who};
+use model::{Denial, Registers, StopValues, Who};
 
 // A counts in 050: ISZ 50, JMP 100.
 const COUNT: [(usize, u16); 2] = [(0o100, 0o010050), (0o101, 0o000100)];
@@ -20,28 +19,20 @@ const MEDDLE: [(usize, u16); 4] = [
 ];
 
 fn load<M: Memory>(machine: &mut Machine<M>, program: &[(usize, u16)]) -> Result<(), Denial> {
-    for (at, word) in program {
-        machine.put(*at, *word)?;
+    for &(at, word) in program {
+        machine.put(at, word)?;
     }
     Ok(())
 }
 
-fn at(pc: u16) -> Registers {
-    Registers {
-        ac: [0; 4],
-        carry: false,
-        pc,
-    }
-}
-
 fn start_again<M: Memory>(machine: &mut Machine<M>, held: Held) -> Result<Ended, Denial> {
-    let again = machine.start(held, at(0o100))?;
+    let again = machine.start(held, Registers::at(0o100))?;
     Ok(machine.run(again, 5)?)
 }
 
 // A run cut in two goes on with the permit that the first part gave back.
 fn run_in_two<M: Memory>(machine: &mut Machine<M>, held: Held) -> Result<Ended, Denial> {
-    let ready = machine.start(held, at(0o100))?;
+    let ready = machine.start(held, Registers::at(0o100))?;
     let first = machine.run(ready, 6)?;
     match first.permit {
         Permit::Ready(again) => Ok(machine.run(again, 5)?),
@@ -59,26 +50,24 @@ fn tilt<M: Memory>(machine: &mut Machine<M>, held: Held) -> Result<Ended, Denial
     machine.map(0o1401)?;
     machine.map(0o3600)?;
     load(machine, &MEDDLE)?;
-    let ready = machine.start(held, at(0o100))?;
+    let ready = machine.start(held, Registers::at(0o100))?;
     Ok(machine.run(ready, 100)?)
 }
 
 fn show(rt: &HostRuntime, name: &str, ended: Result<Ended, Denial>) -> anyhow::Result<()> {
     match ended {
-        Ok(ended) => {
-            let steps = ended.steps;
-            let stop = ended.stop.values();
-            let reason = stop.reason;
-            let address = stop.address;
-            let logical = stop.logical;
+        Ok(Ended { steps, stop, .. }) => {
+            let StopValues {
+                reason,
+                address,
+                logical,
+                ..
+            } = stop.values();
             println!(rt;
                 "{name}: {steps} steps, stop {reason} at {address:o}, logical {logical:o}"
             )?;
         }
-        Err(denial) => {
-            let number = denial.number();
-            println!(rt; "{name}: denied with {number}")?;
-        }
+        Err(denial) => println!(rt; "{name}: {denial}")?,
     }
     Ok(())
 }
@@ -86,20 +75,13 @@ fn show(rt: &HostRuntime, name: &str, ended: Result<Ended, Denial>) -> anyhow::R
 fn tell(rt: &HostRuntime, found: Option<Difference>) -> anyhow::Result<()> {
     match found {
         None => println!(rt; "A is the same on both")?,
-        Some(Difference::Registers) => println!(rt; "A's registers differ")?,
-        Some(Difference::Map) => println!(rt; "A's map differs")?,
-        Some(Difference::Kind) => println!(rt; "A's kind of permit differs")?,
-        Some(Difference::LatestStop) => println!(rt; "A's latest stop differs")?,
-        Some(Difference::Cell(at)) => println!(rt; "A's cell {at:o} differs")?,
+        Some(difference) => println!(rt; "A's {difference}")?,
     }
     Ok(())
 }
 
 fn core(rt: &HostRuntime) -> anyhow::Result<PlainCore> {
-    match PlainCore::new(vec![in rt.alloc(); 0u16; 4096]?) {
-        Ok(core) => Ok(core),
-        Err(_) => Err(anyhow!("a core of another size")),
-    }
+    Ok(PlainCore::new(vec![in rt.alloc(); 0u16; 4096]?)?)
 }
 
 fn main(rt: HostRuntime) -> anyhow::Result<()> {

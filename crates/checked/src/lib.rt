@@ -12,7 +12,7 @@ ghost use Rattle.std.proofs.Common.{arith, rules};
 ghost use Rattle.hamming.proofs.Linear.{word_lt};
 
 use hamming::{encode, mend, word};
-use memory::{Memory, MemoryFault, WrongSize, is_whole};
+use memory::{Memory, MemoryFault, WrongSize, in_blocks};
 
 /// Checked core: a list of numbers, each with 21 positions and higher bits that are ignored.
 #[derive(Drop)]
@@ -23,15 +23,13 @@ pub struct CheckedCore {
 
 impl CheckedCore {
     /// A core of the numbers handed in, 1 to 127 whole blocks of them; else they come back.
+    #[tactic(auto, using(crate::proofs::Decodes::one_flip))]
     pub fn new(numbers: Vec<u32>) -> Result<CheckedCore, WrongSize<Vec<u32>>>
         ensures answer { outcome (λ m. checked m.numbers.items) result ≡ (if whole (vec_len numbers) then Ok (checked numbers.items) else Err numbers) }
         ensures flip { OneFlip }
     {
-        if is_whole(numbers.len()) {
-            Ok(CheckedCore { numbers })
-        } else {
-            Err(WrongSize { back: numbers })
-        }
+        let numbers = in_blocks(numbers)?;
+        Ok(CheckedCore { numbers })
     }
 }
 
@@ -60,16 +58,10 @@ impl Memory for CheckedCore {
         ensures leaves { self.new.numbers.items ≡ (if is_ok result then slice_set self.old.numbers.items at (mended (slice_index self.old.numbers.items at)) else self.old.numbers.items) }
         ensures mends { is_ok result ≡ true → Mends (slice_index self.old.numbers.items at) (slice_index self.new.numbers.items at) }
     {
-        if at >= self.numbers.len() {
-            return Err(MemoryFault::Range);
-        }
-        match mend(self.numbers[at]) {
-            Some(n) => {
-                self.numbers[at] = n;
-                Ok(word(n))
-            }
-            None => Err(MemoryFault::Spoiled),
-        }
+        let number = self.numbers.get_mut(at).ok_or(MemoryFault::Range)?;
+        let mended = mend(*number).ok_or(MemoryFault::Spoiled)?;
+        *number = mended;
+        Ok(word(mended))
     }
 
     /// Leaves a sound number that holds the word and has no higher bits.
@@ -79,10 +71,8 @@ impl Memory for CheckedCore {
         ensures leaves { is_ok result ≡ true → (n : ℕ) × Holds n value × (self.new.numbers.items ≡ slice_set self.old.numbers.items at n) }
         ensures keeps { is_ok result ≡ false → self.new.numbers.items ≡ self.old.numbers.items }
     {
-        if at >= self.numbers.len() {
-            return Err(MemoryFault::Range);
-        }
-        self.numbers[at] = encode(value);
+        let number = self.numbers.get_mut(at).ok_or(MemoryFault::Range)?;
+        *number = encode(value);
         Ok(())
     }
 }

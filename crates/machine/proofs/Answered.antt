@@ -1,21 +1,29 @@
 -- Each call against the rules.
-use Rattle.std.proofs.Common.{◌≡◌, ℕ, Result, refl, ap, ◌∙◌}
-use Rattle.memory.specs.Cells.{Row, word}
-use Rattle.memory.specs.Answers as memory
-use Rattle.memory.specs.declared.fault.MemoryFault.{MemoryFault}
+use Rattle.std.proofs.Common.{◌≡◌, refl, ap, ◌∙◌, subst}
+use Rattle.memory.specs.Cells.{Row}
 use Rattle.model.specs.declared.denial.Denial.TheVariants as denial
+use Rattle.model.specs.declared.user.User.{User}
 use Rattle.model.specs.declared.user.Who.{Who}
 use Rattle.model.specs.declared.user.Who.TheVariants.{A, B}
-use Rattle.model.specs.Machine.{State, Answer, denied, Call, of, unlisted, sense, put, get, after_read, after_write}
-use Rattle.model.specs.Laws.{Did}
-use Rattle.model.proofs.Pasts.{did_sense}
+use Rattle.model.specs.Machine.{State, Answer, denied, Call, Deed, of, sense, act, carried, show, shown}
+use Rattle.model.specs.Laws.{Did, Acts}
+use Rattle.model.proofs.Pasts.{did_a, did_b}
+use Rattle.machine.specs.declared.users.Users.{Users}
+use Rattle.machine.specs.Users.{user_in, with_user}
 
-pub get_did : (s : State) (at : ℕ) (r : Result ℕ MemoryFault) (x : Answer) (cs : Row) → x ≡ after_read r → r ≡ memory.reading s.cells at → cs ≡ s.cells → Did s (get at) x (record { cells = cs; a = s.a; b = s.b })
-get_did s at r x cs d h e = record { answer = d ∙ ap after_read h; after = λ i. record { cells = e i; a = s.a; b = s.b } }
+-- a user's deed, on the record of that user
+pub user_did : (us : Users) (c d : Row) (k : Call) (who : Who) (e : Deed) (x : Answer) (u v : User) → of who e ≡ sense k → u ≡ user_in who us → Acts (act who c u e) x v d →
+    Did (record { cells = c; a = us.a; b = us.b }) k x (record { cells = d; a = (with_user who us v).a; b = (with_user who us v).b })
+user_did us c d k A e x u v h i acts = did_a _ k e x v d h (subst (λ (w : User). Acts (act A c w e) x v d) i acts)
+user_did us c d k B e x u v h i acts = did_b _ k e x v d h (subst (λ (w : User). Acts (act B c w e) x v d) i acts)
 
-pub put_did : (s : State) (at w : ℕ) (r : Result (Unit {0}) MemoryFault) (x : Answer) (cs : Row) → x ≡ after_write r → r ≡ memory.writing s.cells at → cs ≡ memory.written s.cells at (word w) → Did s (put at w) x (record { cells = cs; a = s.a; b = s.b })
-put_did s at w r x cs d h e = record { answer = d ∙ ap after_write h; after = λ i. record { cells = e i; a = s.a; b = s.b } }
+-- to show a user changes nothing
+pub show_did : (us : Users) (c : Row) (who : Who) (u : User) (x : Answer) → u ≡ user_in who us → x ≡ shown u.registers u.kind u.latest →
+    let s : State = record { cells = c; a = us.a; b = us.b } in Did s (show who) x s
+show_did us c A u x i e = record { answer = e ∙ ap (λ (w : User). shown w.registers w.kind w.latest) i; after = refl }
+show_did us c B u x i e = record { answer = e ∙ ap (λ (w : User). shown w.registers w.kind w.latest) i; after = refl }
 
-pub unlisted_did : (s : State) (k : Call) (who : Who) → of who unlisted ≡ sense k → Did s k (denied denial.BadOption) s
-unlisted_did s k A e = did_sense s k (of A unlisted) _ s e refl refl
-unlisted_did s k B e = did_sense s k (of B unlisted) _ s e refl refl
+-- a status word with an option that is not there is denied to either user
+pub unlisted : (s : State) (who : Who) → carried s (of who Deed.unlisted) ≡ (denied denial.BadOption, s)
+unlisted s A = refl
+unlisted s B = refl

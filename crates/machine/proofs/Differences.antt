@@ -1,19 +1,34 @@
 -- Where two machines differ.
-use Rattle.std.proofs.Common.{◌≡◌, ℕ, ◌+◌, ◌-◌, ◌*◌, ◌/◌, ◌%◌, ◌<◌, ◌≤◌, Bool, true, false, ltb, ◌⊎◌, List, length, get_or, Some, None, Option, sym, refl, ap, ◌∙◌, subst, ap₂, subst₂, inl, inr, arith, ltb-false, ltb-true}
+use Rattle.std.proofs.Common.{not, ◌≡◌, ℕ, ◌+◌, ◌-◌, ◌*◌, ◌/◌, ◌%◌, ◌<◌, ◌≤◌, Bool, true, false, eqb, eq-eqb, ltb, ◌⊎◌, List, length, get_or, Ok, Err, Result, Some, None, Option, sym, refl, ap, ◌∙◌, subst, ap₂, subst₂, inl, inr, arith, ltb-false, ltb-true}
+use Rattle.std.specs.Result.{result_eq}
+use Rattle.memory.specs.contracts.fault.MemoryFaultPartialEq
+use Rattle.memory.specs.declared.fault.MemoryFault.{MemoryFault}
+use Rattle.memory.specs.declared.fault.MemoryFault.TheVariants.{Range, Spoiled}
 use Rattle.memory.specs.Cells.{Row}
 use Rattle.model.specs.declared.user.User.{User}
 use Rattle.model.specs.declared.user.Who.{Who}
-use Rattle.model.specs.Machine.{State, user_of}
+use Rattle.model.specs.Machine.{State}
 use Rattle.machine.specs.declared.compare.Difference.{Difference}
 use Rattle.machine.specs.declared.compare.Difference.TheVariants.{Registers, Map, Kind, LatestStop, Cell}
 use Rattle.model.proofs.Rows.{same_reading}
-use Rattle.machine.specs.Compare.{ToldApart, AlikeAt, FirstApart, address_in, CellsApart, Compared, Among, NoneIfAlike}
+use Rattle.machine.specs.Compare.{AlikeAt, FirstApart, address_in, CellsApart, Compared, Among, NoneIfAlike}
 
 address_at : (bs : List ℕ) (i k : ℕ) → k < 1024 → address_in bs (i * 1024 + k) ≡ get_or bs i 0 * 1024 + k
 address_at bs i k h =
     let q : (i * 1024 + k) / 1024 ≡ i = omega arith in
     let m : (i * 1024 + k) % 1024 ≡ k = omega arith in
     ap₂ (λ (x y : ℕ). get_or bs x 0 * 1024 + y) q m
+
+-- the test of two answers finds an answer equal to itself
+answer_itself : (x : Result ℕ MemoryFault) → result_eq eqb (MemoryFaultPartialEq.TheImpl.ghosts).eq x x ≡ true
+answer_itself (Ok w) = eq-eqb w w refl
+answer_itself (Err Range) = refl
+answer_itself (Err Spoiled) = refl
+
+pub answers_apart : (x y : Result ℕ MemoryFault) {r : Bool} → r ≡ not (result_eq eqb (MemoryFaultPartialEq.TheImpl.ghosts).eq x y) → r ≡ true → x ≡ y → ⊥
+answers_apart x y test t e =
+    let same = subst (λ (z : Result ℕ MemoryFault). result_eq eqb (MemoryFaultPartialEq.TheImpl.ghosts).eq x z ≡ true) e (answer_itself x) in
+    cc (test, t, same)
 
 split_at : (j n : ℕ) → (j < n) ⊎ (n ≤ j)
 split_at j n = go (ltb j n) refl
@@ -37,17 +52,6 @@ found_in bs i b c d c' d' a h eb ec ed before f' =
         let n : j ≡ i * 1024 + (j - i * 1024) = omega arith in
         let p : address_in bs j ≡ get_or bs i 0 * 1024 + (j - i * 1024) = ap (address_in bs) n ∙ address_at bs i (j - i * 1024) (omega arith) in
         subst (λ (x : ℕ). AlikeAt c d x) (sym p) (same (j - i * 1024) (omega arith))
-
--- ---- a part of the record that differs
-pub apart : (p : Difference) (who : Who) (bs : List ℕ) (s t : State) (u v : User) → u ≡ user_of who s → v ≡ user_of who t → ToldApart (Some p) u v → Compared (Some p) who bs s t
-apart p who bs s t u v eu ev h' = go p (subst₂ (ToldApart (Some p)) eu ev h')
-  where
-    go : (q : Difference) → ToldApart (Some q) (user_of who s) (user_of who t) → Compared (Some q) who bs s t
-    go Registers h = h
-    go Map h = h
-    go Kind h = h
-    go LatestStop h = h
-    go (Cell n) h = absurd h
 
 -- ---- nothing differs where the machines are alike
 in_mine : (bs : List ℕ) (mine : ℕ → Bool) (n k : ℕ) → Among bs mine → k < length bs * 1024 → n ≡ address_in bs k → mine (n / 1024) ≡ true

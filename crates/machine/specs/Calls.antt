@@ -1,12 +1,12 @@
 -- What a call answers, as the rules have it.
-use Rattle.std.specs.Prelude.{ℕ, ◌<◌, Ok, Err, Result}
+use Rattle.std.specs.Prelude.{◌≡◌, ℕ, Ok, Err, Result}
 use Rattle.model.specs.declared.denial.Denial.{Denial}
 use Rattle.model.specs.declared.steps.Ran.{Ran}
 use Rattle.model.specs.declared.user.Kind.TheVariants.{Held, Ready}
 use Rattle.model.specs.declared.user.Who.{Who}
-use Rattle.model.specs.Machine.{Answer, denied, refused, granted, got, permit, ran, kind_after, Sense, of, wordless, Deed}
-use Rattle.machine.specs.declared.map_word.MapWord.{MapWord}
-use Rattle.machine.specs.declared.map_word.MapWord.TheVariants.{Block, Status, Unlisted, Neither}
+use Rattle.model.specs.Machine.{Answer, denied, refused, granted, got, permit, ran, kind_after, Sense, of, Deed, State, carried}
+use Rattle.machine.specs.declared.setting.Setting.{Setting}
+use Rattle.machine.specs.declared.setting.Setting.TheVariants.{Entry, Switches}
 
 abbrev pub answered : Result (Unit {0}) Denial → Answer
 answered (Ok v) = granted
@@ -16,18 +16,14 @@ abbrev pub read : Result ℕ Denial → Answer
 read (Ok w) = got w
 read (Err e) = denied e
 
--- a map word, read
-abbrev pub meant : MapWord → Sense
-meant (Block who l p b) = of who (Deed.block l p b)
-meant (Status who s) = of who (Deed.status s)
-meant (Unlisted who) = of who Deed.unlisted
-meant Neither = wordless
+-- a map word, read: what it sets, or the denial that it meets on any machine
+abbrev pub meant : Who × Setting → Sense
+meant (who, Entry e) = of who (Deed.block e.logical e.protected e.block)
+meant (who, Switches s) = of who (Deed.status s)
 
-abbrev pub Small : MapWord → Type 0
-Small (Block who l p b) = l < 32
-Small (Status who s) = Unit {0}
-Small (Unlisted who) = Unit {0}
-Small Neither = Unit {0}
+abbrev pub Reads : Result (Who × Setting) Denial → Sense → Type 0
+Reads (Ok x) m = meant x ≡ m
+Reads (Err e) m = (s : State) → carried s m ≡ (denied e, s)
 
 -- a user's start and run
 abbrev pub after_start : Who → Result (Unit {0}) Denial → Answer

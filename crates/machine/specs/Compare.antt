@@ -1,9 +1,10 @@
 -- When two machines are the same to a user, and where they first differ.
-use Rattle.std.specs.Prelude.{◌≡◌, ℕ, ◌+◌, ◌*◌, ◌/◌, ◌%◌, ◌<◌, Bool, true, List, length, Some, None, Option, ◌≢◌, slice_index}
+use Rattle.std.specs.Prelude.{◌≡◌, ℕ, ◌+◌, ◌*◌, ◌/◌, ◌%◌, ◌<◌, Bool, true, List, length, Some, None, Option, ◌≢◌, slice_index, ◌++◌, codes}
 use Rattle.memory.specs.Cells.{Row}
 use Rattle.memory.specs.Answers.{reading}
 use Rattle.model.specs.declared.user.User.{User}
 use Rattle.model.specs.declared.user.Who.{Who}
+use Rattle.model.specs.Numbers.{octal}
 use Rattle.model.specs.Machine.{State, user_of}
 use Rattle.model.specs.Isolation.{Alike}
 use Rattle.machine.specs.declared.compare.Difference.{Difference}
@@ -56,3 +57,11 @@ Among blocks mine = (i : ℕ) → i < length blocks → mine (slice_index blocks
 
 abbrev pub NoneIfAlike : Option Difference → Who → List ℕ → State → State → Type 0
 NoneIfAlike r who blocks s t = (mine : ℕ → Bool) → Among blocks mine → Alike who mine s t → r ≡ None
+
+-- ---- a difference, told in words
+abbrev pub text : Difference → List ℕ
+text Registers = codes "registers differ"
+text Map = codes "map differs"
+text Kind = codes "kind of permit differs"
+text LatestStop = codes "latest stop differs"
+text (Cell n) = codes "cell " ++ octal n ++ codes " differs"

@@ -1,3 +1,4 @@
 pub mod Calls
+pub mod Users
 pub mod Machine
 pub mod Compare

@@ -17,7 +17,7 @@ use Rattle.machine.specs.declared.permit.Ready.{Ready}
 
 -- its state: the cells that its memory means, and the records of its users
 abbrev pub modelled : {M : Type 0} → (M → Row) → Machine M → State
-modelled cells m = record { cells = cells m.memory; a = m.a; b = m.b }
+modelled cells m = record { cells = cells m.memory; a = m.users.a; b = m.users.b }
 
 -- a call of the machine's, from m to n
 abbrev pub Makes : {M : Type 0} → (M → Row) → Machine M → Call → Answer → Machine M → Type 0
@@ -37,8 +37,8 @@ kind_of (Permit.Ready p) = kind.Ready
 
 -- a permit of that user's, of the kind that the machine's record has
 abbrev pub Fits : {M : Type 0} → Who → Machine M → Permit → Type 0
-Fits A m p = (who_of p ≡ A) × (kind_of p ≡ m.a.kind)
-Fits B m p = (who_of p ≡ B) × (kind_of p ≡ m.b.kind)
+Fits A m p = (who_of p ≡ A) × (kind_of p ≡ m.users.a.kind)
+Fits B m p = (who_of p ≡ B) × (kind_of p ≡ m.users.b.kind)
 
 -- a start and a run on a permit, with the permit that is given or comes back
 abbrev pub begun : Result Ready (Denied Held) → Answer

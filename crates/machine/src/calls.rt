@@ -3,22 +3,23 @@
 ghost use Rattle.std.specs.Prelude.{◌≡◌, ℕ, []};
 ghost use Rattle.model.specs.Machine.{map as mapping, put as putting, get as getting, start as starting, run as running, show as showing, fresh, shown as showed};
 ghost use Rattle.model.specs.Isolation.{Past};
-ghost use Rattle.machine.specs.Calls.{answered, read as got, after_start, after_run};
+ghost use Rattle.machine.specs.Calls.{answered, read as got};
 ghost use Rattle.model.specs.Programs.{Lawful};
 ghost use Rattle.machine.specs.Machine.{modelled, Makes, seen, who_of, kind_of, begun, ran_on};
 
-use crate::map_word::{MapWord, read_map_word};
+use crate::map_word::read_map_word;
 use crate::permit::{Denied, Held, Permit, Ready};
 use crate::record::{assign, begin, carry_on, kind_left_by};
+use crate::setting::Setting;
+use crate::users::Users;
 use memory::Memory;
-use model::{Denial, Kind, Ran, Registers, Stop, Switches, User, UserMap, Who};
+use model::{Denial, Kind, Registers, Stop, Switches, User, UserMap, Who};
 
 /// A memory and the records of its two users.
 #[derive(Drop)]
 pub struct Machine<M> {
     pub(crate) memory: M,
-    pub(crate) a: User,
-    pub(crate) b: User,
+    pub(crate) users: Users,
 }
 
 /// What a run answers: the steps that it completed, why it ended, and the permit that it gives back.
@@ -66,35 +67,19 @@ fn permit_of(who: Who, kind: Kind) -> Permit
     }
 }
 
-fn view(user: &User) -> Shown
-    ensures { seen result ≡ showed user.now.registers user.now.kind user.now.latest }
-{
-    Shown {
-        registers: user.registers,
-        kind: user.kind,
-        latest: user.latest,
+impl From<&User> for Shown {
+    ghost from_gives = { λ x y. seen y ≡ showed x.now.registers x.now.kind x.now.latest };
+
+    fn from(user: &User) -> Shown {
+        Shown {
+            registers: user.registers,
+            kind: user.kind,
+            latest: user.latest,
+        }
     }
 }
 
 impl<M: Memory> Machine<M> {
-    fn start_user(&mut self, who: Who, registers: Registers) -> Result<(), Denial>
-        ensures { Makes M.Memory.cells self.old (starting who registers) (after_start who result) self.new }
-    {
-        match who {
-            Who::A => begin(&mut self.a, &self.memory, Who::A, registers),
-            Who::B => begin(&mut self.b, &self.memory, Who::B, registers),
-        }
-    }
-
-    fn run_user(&mut self, who: Who, budget: u16) -> Result<Ran, Denial>
-        ensures { Makes M.Memory.cells self.old (running who budget) (after_run who result) self.new }
-    {
-        match who {
-            Who::A => carry_on(&mut self.a, &mut self.memory, Who::A, budget),
-            Who::B => carry_on(&mut self.b, &mut self.memory, Who::B, budget),
-        }
-    }
-
     /// A new machine over a memory, and a Held permit for A and for B.
     pub fn new(memory: M) -> (Machine<M>, Held, Held)
         ensures state { modelled M.Memory.cells result.0 ≡ fresh (M.Memory.cells memory) }
@@ -104,8 +89,10 @@ impl<M: Memory> Machine<M> {
         (
             Machine {
                 memory,
-                a: NEW_USER,
-                b: NEW_USER,
+                users: Users {
+                    a: NEW_USER,
+                    b: NEW_USER,
+                },
             },
             Held { who: Who::A },
             Held { who: Who::B },
@@ -116,7 +103,7 @@ impl<M: Memory> Machine<M> {
     pub fn end(self) -> M
         ensures { M.Memory.cells result ≡ (modelled M.Memory.cells self).cells }
     {
-        let Machine { memory, a: _, b: _ } = self;
+        let Machine { memory, users: _ } = self;
         memory
     }
 
@@ -124,20 +111,14 @@ impl<M: Memory> Machine<M> {
     pub fn map(&mut self, word: u16) -> Result<(), Denial>
         ensures { Makes M.Memory.cells self.old (mapping word) (answered result) self.new }
     {
-        match read_map_word(word) {
-            MapWord::Neither => Err(Denial::BadOption),
-            MapWord::Unlisted(_) => Err(Denial::BadOption),
-            MapWord::Status(who, switches) => {
-                match who {
-                    Who::A => self.a.map.switches = switches,
-                    Who::B => self.b.map.switches = switches,
-                }
+        let (who, setting) = read_map_word(word)?;
+        let user = self.users.of_mut(who);
+        match setting {
+            Setting::Entry(entry) => assign(user, &self.memory, entry),
+            Setting::Switches(switches) => {
+                user.map.switches = switches;
                 Ok(())
             }
-            MapWord::Block(who, logical, protected, block) => match who {
-                Who::A => assign(&mut self.a, &self.memory, logical, protected, block),
-                Who::B => assign(&mut self.b, &self.memory, logical, protected, block),
-            },
         }
     }
 
@@ -160,7 +141,7 @@ impl<M: Memory> Machine<M> {
     pub fn start(&mut self, permit: Held, registers: Registers) -> Result<Ready, Denied<Held>>
         ensures { Makes M.Memory.cells self.old (starting permit.who registers) (begun result) self.new }
     {
-        match self.start_user(permit.who, registers) {
+        match begin(self.users.of_mut(permit.who), registers) {
             Ok(()) => Ok(Ready { who: permit.who }),
             Err(reason) => Err(Denied { reason, permit }),
         }
@@ -171,7 +152,8 @@ impl<M: Memory> Machine<M> {
         ensures laws { Lawful }
         ensures makes { Makes M.Memory.cells self.old (running permit.who budget) (ran_on result) self.new }
     {
-        match self.run_user(permit.who, budget) {
+        let user = self.users.of_mut(permit.who);
+        match carry_on(user, &mut self.memory, budget) {
             Ok(ran) => Ok(Ended {
                 steps: ran.steps,
                 stop: ran.stop,
@@ -185,9 +167,6 @@ impl<M: Memory> Machine<M> {
     pub fn show(&self, who: Who) -> Shown
         ensures { Makes M.Memory.cells self.now (showing who) (seen result) self.now }
     {
-        match who {
-            Who::A => view(&self.a),
-            Who::B => view(&self.b),
-        }
+        Shown::from(self.users.of(who))
     }
 }

@@ -1,15 +1,15 @@
 //! Two machines held against each other, for one user.
 
-ghost use Rattle.std.specs.Prelude.{◌≡◌, ℕ, ◌+◌, ◌<◌, Decides};
-ghost use Rattle.model.specs.Machine.{user_of};
+ghost use Rattle.std.specs.Prelude.{◌≡◌, ℕ, ◌+◌, ◌<◌, Some};
 ghost use Rattle.model.specs.Isolation.{Agreement};
 ghost use Rattle.model.specs.Laws.{Order, Locality, Frame};
 ghost use Rattle.machine.specs.Machine.{modelled};
-ghost use Rattle.machine.specs.Compare.{ToldApart, FirstApart, CellsApart, Compared, NoneIfAlike};
+ghost use Rattle.machine.specs.Compare.{ToldApart, FirstApart, CellsApart, Compared, NoneIfAlike, text};
 
 use crate::calls::Machine;
-use memory::{Memory, MemoryFault};
+use memory::Memory;
 use model::{User, Who};
+use std::fmt;
 
 /// The first thing in which two machines differ to a user.
 #[derive(Clone, Copy, PartialEq, Eq, Debug)]
@@ -22,12 +22,17 @@ pub enum Difference {
     Cell(usize),
 }
 
-fn record_of<M: Memory>(machine: &Machine<M>, who: Who) -> User
-    ensures { result ≡ user_of who (modelled M.Memory.cells machine.now) }
-{
-    match who {
-        Who::A => machine.a,
-        Who::B => machine.b,
+impl fmt::Display for Difference {
+    ghost output = { λ d. Some (text d) };
+
+    fn fmt<W: fmt::Write>(&self, f: &mut fmt::Formatter<W>) -> fmt::Result {
+        match *self {
+            Difference::Registers => write!(f, "registers differ"),
+            Difference::Map => write!(f, "map differs"),
+            Difference::Kind => write!(f, "kind of permit differs"),
+            Difference::LatestStop => write!(f, "latest stop differs"),
+            Difference::Cell(at) => write!(f, "cell {at:o} differs"),
+        }
     }
 }
 
@@ -47,12 +52,6 @@ fn compare_users(left: &User, right: &User) -> Option<Difference>
     }
 }
 
-fn same_answer(x: Result<u16, MemoryFault>, y: Result<u16, MemoryFault>) -> bool
-    ensures { Decides result (x ≡ y) }
-{
-    x == y
-}
-
 // The first cell of a block that differs.
 fn compare_block<M: Memory, N: Memory>(left: &mut M, right: &mut N, start: usize) -> Option<usize>
     requires { start < 1048576 }
@@ -60,9 +59,9 @@ fn compare_block<M: Memory, N: Memory>(left: &mut M, right: &mut N, start: usize
     ensures left { M.Memory.cells left.new ≡ M.Memory.cells left.old }
     ensures right { N.Memory.cells right.new ≡ N.Memory.cells right.old }
 {
-    for k in 0..1024 {
-        let at = start + k;
-        if !same_answer(left.read(at), right.read(at)) {
+    // A loop, since nothing would be known of memories that the closure of a `find` has read.
+    for at in start..start + 1024 {
+        if left.read(at) != right.read(at) {
             return Some(at);
         }
     }
@@ -94,7 +93,7 @@ fn first_difference<M: Memory, N: Memory>(
     ensures left { modelled M.Memory.cells left.new ≡ modelled M.Memory.cells left.old }
     ensures right { modelled N.Memory.cells right.new ≡ modelled N.Memory.cells right.old }
 {
-    if let Some(part) = compare_users(&record_of(left, who), &record_of(right, who)) {
+    if let Some(part) = compare_users(left.users.of(who), right.users.of(who)) {
         return Some(part);
     }
     let at = compare_blocks(&mut left.memory, &mut right.memory, blocks)?;

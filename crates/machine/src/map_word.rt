@@ -1,24 +1,12 @@
 //! Map words. Bit 0 is the highest of the sixteen.
 
-ghost use Rattle.std.specs.Prelude.{◌≡◌, ℕ, ◌%◌, ◌<◌, not, ◌||◌, ◌==◌};
+ghost use Rattle.std.specs.Prelude.{◌≡◌, ℕ, ◌%◌, not, ◌||◌, ◌==◌};
 ghost use Rattle.model.specs.Machine.{sense_of_word, user_by_bit, bit as bit_of};
-ghost use Rattle.machine.specs.Calls.{meant, Small};
+ghost use Rattle.machine.specs.Calls.{Reads};
 
+use crate::setting::{Entry, Setting};
 use arithmetic::fields::{bits, low};
-use model::{Switches, Who};
-
-/// What a map word asks for.
-#[derive(Clone, Copy)]
-pub(crate) enum MapWord {
-    /// An entry of a user's: its logical block, whether it is write-protected, and its physical block.
-    Block(Who, u8, bool, u8),
-    /// A user's switches.
-    Status(Who, Switches),
-    /// A status word that asks for an option that there is not.
-    Unlisted(Who),
-    /// A word of neither form.
-    Neither,
-}
+use model::{Denial, Switches, Who};
 
 fn user_by(b: bool) -> Who
     ensures { result ≡ user_by_bit b }
@@ -41,29 +29,24 @@ fn is_unlisted(w: u16) -> bool
 }
 
 /// Reads a map word. Bit 0 is ignored, and in a status word also bits 3-5 and 8.
-pub(crate) fn read_map_word(w: u16) -> MapWord
-    ensures meaning { meant result ≡ sense_of_word w }
-    ensures small { Small result }
+pub(crate) fn read_map_word(w: u16) -> Result<(Who, Setting), Denial>
+    ensures { Reads result (sense_of_word w) }
 {
     if bits(w, 9, 1) == 1 {
-        return MapWord::Block(
-            user_by(bits(w, 8, 1) == 1),
-            bits(w, 10, 5) as u8,
-            bits(w, 7, 1) == 1,
-            low(w, 7) as u8,
-        );
+        let entry = Entry {
+            logical: usize::from(bits(w, 10, 5)),
+            protected: bits(w, 7, 1) == 1,
+            block: low(w, 7) as u8,
+        };
+        return Ok((user_by(bits(w, 8, 1) == 1), Setting::Entry(entry)));
     }
-    if is_neither(w) {
-        return MapWord::Neither;
-    }
-    let who = user_by(bits(w, 13, 1) == 1);
-    if is_unlisted(w) {
-        return MapWord::Unlisted(who);
+    if is_neither(w) || is_unlisted(w) {
+        return Err(Denial::BadOption);
     }
     let switches = Switches {
         lef: bits(w, 6, 1) == 1,
         write: bits(w, 4, 1) == 1,
         indirect: bits(w, 3, 1) == 1,
     };
-    MapWord::Status(who, switches)
+    Ok((user_by(bits(w, 13, 1) == 1), Setting::Switches(switches)))
 }

@@ -1,31 +1,32 @@
 //! What a call does to the record of one user.
 
-ghost use Rattle.std.specs.Prelude.{◌≡◌, ℕ, ◌<◌};
+ghost use Rattle.std.specs.Prelude.{◌≡◌};
+ghost use Rattle.memory.specs.Cells.{Row};
 ghost use Rattle.model.specs.Machine.{mapped, started, run_by, kind_after};
+ghost use Rattle.model.specs.declared.user.Who.{Who};
 ghost use Rattle.model.specs.Laws.{Acts};
 ghost use Rattle.machine.specs.Calls.{answered, after_start, after_run};
 
+use crate::setting::Entry;
 use memory::Memory;
-use model::{Denial, Kind, Page, Ran, Registers, Stop, User, Who};
+use model::{Denial, Kind, Page, Ran, Registers, Stop, User};
 use processor::run::run_steps;
 
 /// Sets an entry. Block 127 with the protect bit means no block; any other block has to be in the memory.
-pub(crate) fn assign<M: Memory>(
-    user: &mut User,
-    memory: &M,
-    logical: u8,
-    protected: bool,
-    block: u8,
-) -> Result<(), Denial>
-    requires { logical < 32 }
-    ensures { Acts (mapped (M.Memory.cells memory.now) user.old logical protected block) (answered result) user.new (M.Memory.cells memory.now) }
+pub(crate) fn assign<M: Memory>(user: &mut User, memory: &M, entry: Entry) -> Result<(), Denial>
+    ensures { Acts (mapped (M.Memory.cells memory.now) user.old entry.logical entry.protected entry.block) (answered result) user.new (M.Memory.cells memory.now) }
 {
+    let Entry {
+        logical,
+        protected,
+        block,
+    } = entry;
     if protected && block == 127 {
-        user.map.entries[logical as usize] = None;
+        user.map.entries[logical] = None;
         return Ok(());
     }
-    if (block as usize) < memory.size() / 1024 {
-        user.map.entries[logical as usize] = Some(Page { block, protected });
+    if usize::from(block) < memory.size() / 1024 {
+        user.map.entries[logical] = Some(Page { block, protected });
         Ok(())
     } else {
         Err(Denial::Block)
@@ -33,13 +34,8 @@ pub(crate) fn assign<M: Memory>(
 }
 
 /// Starts the user. The kind of the record is tested before the PC.
-pub(crate) fn begin<M: Memory>(
-    user: &mut User,
-    memory: &M,
-    who: Who,
-    registers: Registers,
-) -> Result<(), Denial>
-    ensures { Acts (started user.old.kind who (M.Memory.cells memory.now) user.old registers) (after_start who result) user.new (M.Memory.cells memory.now) }
+pub(crate) fn begin(user: &mut User, registers: Registers) -> Result<(), Denial>
+    ensures { (who : Who) (cs : Row) → Acts (started user.old.kind who cs user.old registers) (after_start who result) user.new cs }
 {
     match user.kind {
         Kind::Ready => Err(Denial::Permit),
@@ -69,10 +65,9 @@ pub(crate) fn kind_left_by(stop: Stop) -> Kind
 pub(crate) fn carry_on<M: Memory>(
     user: &mut User,
     memory: &mut M,
-    who: Who,
     budget: u16,
 ) -> Result<Ran, Denial>
-    ensures { Acts (run_by user.old.kind who (M.Memory.cells memory.old) user.old budget) (after_run who result) user.new (M.Memory.cells memory.new) }
+    ensures { (who : Who) → Acts (run_by user.old.kind who (M.Memory.cells memory.old) user.old budget) (after_run who result) user.new (M.Memory.cells memory.new) }
 {
     match user.kind {
         Kind::Held => Err(Denial::Permit),

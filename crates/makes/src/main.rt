@@ -3,7 +3,6 @@
 
 #![tactic(auto)]
 
-use anyhow::anyhow;
 use checked::CheckedCore;
 use hamming::encode;
 use machine::compare::compare;
@@ -44,12 +43,7 @@ fn run_from<M: Memory>(
     pc: u16,
     budget: u16,
 ) -> Result<Told, Denial> {
-    let registers = Registers {
-        ac: [0; 4],
-        carry: false,
-        pc,
-    };
-    let ready = machine.start(held, registers)?;
+    let ready = machine.start(held, Registers::at(pc))?;
     let ended = machine.run(ready, budget)?;
     Ok(Told {
         steps: ended.steps,
@@ -60,73 +54,38 @@ fn run_from<M: Memory>(
 
 fn carry_out<M: Memory>(machine: &mut Machine<M>, held: Held) -> Result<Told, Denial> {
     machine.map(0o1000)?;
-    for (at, word) in &PROGRAM {
-        machine.put(*at, *word)?;
+    for (at, word) in PROGRAM {
+        machine.put(at, word)?;
     }
     run_from(machine, held, 0o100, 100)
 }
 
 fn tell(rt: &HostRuntime, name: &str, told: Result<Told, Denial>) -> anyhow::Result<()> {
     match told {
-        Ok(t) => {
-            let Told { steps, stop, sum } = t;
-            let StopValues {
-                reason,
-                address,
-                word,
-                logical,
-                physical,
-                cause,
-            } = stop;
+        Ok(Told { steps, stop, sum }) => {
             println!(rt; "{name}: {steps} steps, cell 204 is {sum:o}")?;
-            println!(rt;
-                "  stop {reason}: address {address:o}, word {word:o}, logical {logical:o}, physical {physical:o}, cause {cause}"
-            )?;
+            println!(rt; "  {stop}")?;
         }
-        Err(denial) => {
-            let number = denial.number();
-            println!(rt; "{name}: denied with {number}")?;
-        }
+        Err(denial) => println!(rt; "{name}: {denial}")?,
     }
     Ok(())
 }
 
 fn plain(heap: Global, size: usize) -> anyhow::Result<PlainCore> {
-    match PlainCore::new(vec![in heap; 0u16; size]?) {
-        Ok(core) => Ok(core),
-        Err(_) => Err(anyhow!("a core of another size")),
-    }
+    Ok(PlainCore::new(vec![in heap; 0u16; size]?)?)
 }
 
 // Zeros, each with another one of its 21 positions turned over.
 fn flawed(heap: Global) -> Result<Vec<u32>, AllocError> {
-    let mut numbers = Vec::new(heap);
-    for k in 0..SIZE {
-        numbers.push(encode(0) ^ 1 << (k % 21))?;
-    }
-    Ok(numbers)
-}
-
-fn checked(numbers: Vec<u32>) -> anyhow::Result<CheckedCore> {
-    match CheckedCore::new(numbers) {
-        Ok(core) => Ok(core),
-        Err(_) => Err(anyhow!("a core of another size")),
-    }
-}
-
-fn pair<F: Memory + Drop, S: Memory + Drop>(first: F, second: S) -> anyhow::Result<Pair<F, S>> {
-    match Pair::new(first, second) {
-        Ok(pair) => Ok(pair),
-        Err(_) => Err(anyhow!("two halves that do not fit")),
-    }
+    (0..SIZE).map(|k| encode(0) ^ 1 << (k % 21)).collect(heap)
 }
 
 fn main(rt: HostRuntime) -> anyhow::Result<()> {
     let heap = rt.alloc();
     let (mut one, one_a, _) = Machine::new(plain(heap, SIZE)?);
-    let (mut two, two_a, _) = Machine::new(checked(flawed(heap)?)?);
-    let halves = pair(plain(heap, SIZE / 4)?, plain(heap, SIZE / 4)?)?;
-    let (mut three, three_a, _) = Machine::new(pair(halves, plain(heap, SIZE / 2)?)?);
+    let (mut two, two_a, _) = Machine::new(CheckedCore::new(flawed(heap)?)?);
+    let halves = Pair::new(plain(heap, SIZE / 4)?, plain(heap, SIZE / 4)?)?;
+    let (mut three, three_a, _) = Machine::new(Pair::new(halves, plain(heap, SIZE / 2)?)?);
     tell(&rt, "plain", carry_out(&mut one, one_a))?;
     tell(&rt, "checked", carry_out(&mut two, two_a))?;
     tell(&rt, "pair", carry_out(&mut three, three_a))?;
@@ -142,12 +101,9 @@ fn main(rt: HostRuntime) -> anyhow::Result<()> {
 
 // Zeros with one number spoiled: positions 10 and 17 of cell 060 are turned over.
 fn spoiled_numbers(heap: Global) -> Result<Vec<u32>, AllocError> {
-    let mut numbers = Vec::new(heap);
-    for k in 0..SIZE {
-        let flaw = if k == 0o60 { 66048 } else { 0 };
-        numbers.push(encode(0) ^ flaw)?;
-    }
-    Ok(numbers)
+    (0..SIZE)
+        .map(|k| encode(0) ^ if k == 0o60 { 66048 } else { 0 })
+        .collect(heap)
 }
 
 // LDA 0,.-20 in block 0, which A has as its logical block 1.
@@ -158,7 +114,7 @@ fn read_one<M: Memory>(machine: &mut Machine<M>, held: Held) -> Result<Told, Den
 }
 
 fn spoiled(rt: &HostRuntime) -> anyhow::Result<()> {
-    let (mut machine, a, _) = Machine::new(checked(spoiled_numbers(rt.alloc())?)?);
+    let (mut machine, a, _) = Machine::new(CheckedCore::new(spoiled_numbers(rt.alloc())?)?);
     tell(rt, "spoiled", read_one(&mut machine, a))?;
     let mut core = machine.end();
     let before = survey(&mut core);

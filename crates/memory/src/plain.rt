@@ -5,7 +5,7 @@ ghost use Rattle.std.proofs.Common.{rules, arith};
 
 use crate::fault::{MemoryFault, WrongSize};
 use crate::meaning::Memory;
-use crate::size::is_whole;
+use crate::size::in_blocks;
 
 /// Plain core: a list of words, none of them spoiled.
 #[derive(Drop)]
@@ -19,11 +19,8 @@ impl PlainCore {
     pub fn new(words: Vec<u16>) -> Result<PlainCore, WrongSize<Vec<u16>>>
         ensures { outcome (λ m. sound m.words.items) result ≡ (if whole (vec_len words) then Ok (sound words.items) else Err words) }
     {
-        if is_whole(words.len()) {
-            Ok(PlainCore { words })
-        } else {
-            Err(WrongSize { back: words })
-        }
+        let words = in_blocks(words)?;
+        Ok(PlainCore { words })
     }
 }
 
@@ -41,18 +38,12 @@ impl Memory for PlainCore {
     }
 
     fn read(&mut self, at: usize) -> Result<u16, MemoryFault> {
-        match self.words.get(at) {
-            Some(w) => Ok(*w),
-            None => Err(MemoryFault::Range),
-        }
+        self.words.get(at).copied().ok_or(MemoryFault::Range)
     }
 
     fn write(&mut self, at: usize, value: u16) -> Result<(), MemoryFault> {
-        if at < self.words.len() {
-            self.words[at] = value;
-            Ok(())
-        } else {
-            Err(MemoryFault::Range)
-        }
+        let word = self.words.get_mut(at).ok_or(MemoryFault::Range)?;
+        *word = value;
+        Ok(())
     }
 }

@@ -8,6 +8,7 @@ use Rattle.model.specs.declared.denial.Denial.{Denial}
 use Rattle.model.specs.declared.denial.Denial.TheVariants as denial
 use Rattle.model.specs.declared.fault.Fault.{Fault}
 use Rattle.model.specs.declared.fault.Fault.TheVariants as fault
+use Rattle.model.specs.declared.fault.MapFault.TheVariants as refusal
 use Rattle.model.specs.declared.steps.Ran.{Ran}
 use Rattle.model.specs.declared.steps.Turn.{Turn}
 use Rattle.model.specs.declared.steps.Turn.TheVariants.{Goes, Calls, Stops}
@@ -93,9 +94,9 @@ denied_unchanged s k = sense_unchanged s (sense k)
 
 -- ---- a run's steps and reason
 fault_reason : (a w : ℕ) (e : Fault) → (10 ≤ (by_fault a w e).reason) × ((by_fault a w e).reason ≤ 19)
-fault_reason a w (fault.Validity l) = (omega arith, omega arith)
-fault_reason a w (fault.Protected l) = (omega arith, omega arith)
-fault_reason a w (fault.Memory e) = (omega arith, omega arith)
+fault_reason a w (fault.Map (refusal.Validity l)) = (omega arith, omega arith)
+fault_reason a w (fault.Map (refusal.Protected l)) = (omega arith, omega arith)
+fault_reason a w (fault.Map (refusal.Memory e)) = (omega arith, omega arith)
 fault_reason a w (fault.Chain l) = (omega arith, omega arith)
 fault_reason a w fault.Device = (omega arith, omega arith)
 fault_reason a w fault.Stack = (omega arith, omega arith)

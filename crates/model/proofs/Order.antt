@@ -8,6 +8,7 @@ use Rattle.memory.specs.declared.fault.MemoryFault.{MemoryFault}
 use Rattle.memory.specs.declared.fault.MemoryFault.TheVariants as unread
 use Rattle.model.specs.declared.fault.Fault.{Fault}
 use Rattle.model.specs.declared.fault.Fault.TheVariants as fault
+use Rattle.model.specs.declared.fault.MapFault.TheVariants as refusal
 use Rattle.model.specs.declared.user.Kind.{Kind}
 use Rattle.model.specs.declared.user.Kind.TheVariants.{Held, Ready}
 use Rattle.model.specs.declared.fault.MapFault.{MapFault}
@@ -39,9 +40,9 @@ use Rattle.model.proofs.Isolation.{written_size, each_none}
 
 -- a fault is by no end of the memory
 abbrev Clear : Fault → Type 0
-Clear (fault.Validity l) = Unit {0}
-Clear (fault.Protected l) = Unit {0}
-Clear (fault.Memory e) = e.cause ≡ unread.Spoiled
+Clear (fault.Map (refusal.Validity l)) = Unit {0}
+Clear (fault.Map (refusal.Protected l)) = Unit {0}
+Clear (fault.Map (refusal.Memory e)) = e.cause ≡ unread.Spoiled
 Clear (fault.Chain l) = Unit {0}
 Clear fault.Device = Unit {0}
 Clear fault.Stack = Unit {0}
@@ -117,9 +118,9 @@ module _ (n : ℕ) where
   Good s = (values_of s).reason ≡ 15 → (values_of s).cause ≡ 2
 
   clear_good : (a w : ℕ) (e : Fault) → Clear e → Good (stop.Faulted a w e)
-  clear_good a w (fault.Validity l) h q = absurd (omega (arith, q))
-  clear_good a w (fault.Protected l) h q = absurd (omega (arith, q))
-  clear_good a w (fault.Memory e) h q = ap fault_number h
+  clear_good a w (fault.Map (refusal.Validity l)) h q = absurd (omega (arith, q))
+  clear_good a w (fault.Map (refusal.Protected l)) h q = absurd (omega (arith, q))
+  clear_good a w (fault.Map (refusal.Memory e)) h q = ap fault_number h
   clear_good a w (fault.Chain l) h q = absurd (omega (arith, q))
   clear_good a w fault.Device h q = absurd (omega (arith, q))
   clear_good a w fault.Stack h q = absurd (omega (arith, q))

@@ -24,9 +24,7 @@ abbrev pub from_memory : Located → MapFault
 from_memory e = map.Memory e
 
 abbrev pub from_map : MapFault → Fault
-from_map (map.Validity a) = fault.Validity a
-from_map (map.Protected a) = fault.Protected a
-from_map (map.Memory e) = fault.Memory e
+from_map e = fault.Map e
 
 abbrev pub from_program : Halt → Fault
 from_program (chain a) = fault.Chain a

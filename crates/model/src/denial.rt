@@ -1,7 +1,10 @@
-ghost use Rattle.std.specs.Prelude.{◌≡◌};
+ghost use Rattle.std.specs.Prelude.{◌≡◌, ◌++◌, Some, codes, decimal};
 ghost use Rattle.model.specs.Numbers.{number_of, from_cause};
+ghost use Rattle.model.specs.declared.denial.Denial.TheVariants.{Size};
 
-use memory::MemoryFault;
+use memory::{MemoryFault, WrongSize};
+use std::error::Error;
+use std::fmt;
 
 /// A denial: a call that cannot be done answers why, and changes nothing.
 #[derive(Clone, Copy, PartialEq, Eq, Debug)]
@@ -30,6 +33,14 @@ impl From<MemoryFault> for Denial {
     }
 }
 
+impl<T: Drop> From<WrongSize<T>> for Denial {
+    ghost from_gives = { λ _ y. y ≡ Size };
+
+    fn from(_value: WrongSize<T>) -> Denial {
+        Denial::Size
+    }
+}
+
 impl Denial {
     /// The number of the denial, 1 to 8.
     pub fn number(self) -> u8
@@ -46,3 +57,14 @@ impl Denial {
         }
     }
 }
+
+impl fmt::Display for Denial {
+    ghost output = { λ d. Some (codes "denied with " ++ decimal (number_of d)) };
+
+    fn fmt<W: fmt::Write>(&self, f: &mut fmt::Formatter<W>) -> fmt::Result {
+        let number = self.number();
+        write!(f, "denied with {number}")
+    }
+}
+
+impl Error for Denial {}

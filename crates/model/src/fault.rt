@@ -23,9 +23,7 @@ pub enum MapFault {
 /// long an indirect chain, an I/O word, the stack's limit, a word that is not listed, or an endless XCT.
 #[derive(Clone, Copy, PartialEq, Eq, Debug)]
 pub enum Fault {
-    Validity(u16),
-    Protected(u16),
-    Memory(Located),
+    Map(MapFault),
     Chain(u16),
     Device,
     Stack,
@@ -45,10 +43,6 @@ impl From<MapFault> for Fault {
     ghost from_gives = { λ x y. y ≡ from_map x };
 
     fn from(value: MapFault) -> Fault {
-        match value {
-            MapFault::Validity(at) => Fault::Validity(at),
-            MapFault::Protected(at) => Fault::Protected(at),
-            MapFault::Memory(located) => Fault::Memory(located),
-        }
+        Fault::Map(value)
     }
 }

@@ -1,7 +1,8 @@
-ghost use Rattle.std.specs.Prelude.{◌≡◌};
-ghost use Rattle.model.specs.Numbers.{values_of, by_fault, latest_values};
+ghost use Rattle.std.specs.Prelude.{◌≡◌, Some};
+ghost use Rattle.model.specs.Numbers.{values_of, by_fault, latest_values, stop_text};
 
-use crate::fault::Fault;
+use crate::fault::{Fault, MapFault};
+use std::fmt;
 
 /// Why a run ended. A stop but the first holds the address of its instruction and the word fetched there.
 #[derive(Clone, Copy, PartialEq, Eq, Debug)]
@@ -50,15 +51,34 @@ impl StopValues {
     }
 }
 
+impl fmt::Display for StopValues {
+    ghost output = { λ s. Some (stop_text s) };
+
+    fn fmt<W: fmt::Write>(&self, f: &mut fmt::Formatter<W>) -> fmt::Result {
+        let StopValues {
+            reason,
+            address,
+            word,
+            logical,
+            physical,
+            cause,
+        } = *self;
+        write!(
+            f,
+            "stop {reason}: address {address:o}, word {word:o}, logical {logical:o}, physical {physical:o}, cause {cause}"
+        )
+    }
+}
+
 fn faulted(address: u16, word: u16, fault: Fault) -> StopValues
     ensures { result ≡ by_fault address word fault }
 {
     match fault {
-        Fault::Validity(logical) => StopValues {
+        Fault::Map(MapFault::Validity(logical)) => StopValues {
             logical,
             ..StopValues::plain(12, address, word)
         },
-        Fault::Protected(logical) => StopValues {
+        Fault::Map(MapFault::Protected(logical)) => StopValues {
             logical,
             ..StopValues::plain(13, address, word)
         },
@@ -66,7 +86,7 @@ fn faulted(address: u16, word: u16, fault: Fault) -> StopValues
             logical,
             ..StopValues::plain(14, address, word)
         },
-        Fault::Memory(e) => StopValues {
+        Fault::Map(MapFault::Memory(e)) => StopValues {
             logical: e.logical,
             physical: e.physical,
             cause: e.cause.number(),

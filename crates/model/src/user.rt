@@ -1,4 +1,4 @@
-ghost use Rattle.std.specs.Prelude.{◌≡◌, Decides};
+ghost use Rattle.std.specs.Prelude.{◌≡◌, false, replicate, Decides};
 ghost use Rattle.model.specs.Equality.{registers_eq, map_eq, map_laws};
 ghost use Rattle.std.specs.Cmp.Rules.{comparing};
 ghost use Rattle.std.proofs.Common.{rules};
@@ -60,45 +60,45 @@ pub struct User {
     pub latest: Option<Stop>,
 }
 
-fn same_words(x: &[u16; 4], y: &[u16; 4]) -> bool
-    ensures { Decides result (x.now ≡ y.now) }
-{
-    *x == *y
+impl Registers {
+    /// Registers of 0 but for the PC.
+    pub fn at(pc: u16) -> Registers
+        ensures { result ≡ record { ac = replicate 4 0; carry = false; pc = pc } }
+    {
+        Registers {
+            ac: [0; 4],
+            carry: false,
+            pc,
+        }
+    }
 }
 
+// By hand, since a derived test would have no clause that says that equal values are one.
 impl PartialEq for Registers {
     ghost eq = { registers_eq };
 
     ghost laws = { Prim.search (comparing, rules) };
 
+    #[tactic(auto, using(crate::proofs::Equality::registers_decides))]
     fn eq(&self, other: &Registers) -> bool
         ensures answer { result ≡ registers_eq self.now other.now }
         ensures same { Decides result (self.now ≡ other.now) }
     {
-        same_words(&self.ac, &other.ac) && self.carry == other.carry && self.pc == other.pc
+        self.ac == other.ac && self.carry == other.carry && self.pc == other.pc
     }
 }
 
-fn same_pages(x: &[Option<Page>; 32], y: &[Option<Page>; 32]) -> bool
-    ensures { Decides result (x.now ≡ y.now) }
-{
-    for i in 0..32 {
-        if x[i] != y[i] {
-            return false;
-        }
-    }
-    true
-}
-
+// By hand, for the same reason.
 impl PartialEq for UserMap {
     ghost eq = { map_eq };
 
     ghost laws = { map_laws };
 
+    #[tactic(auto, using(crate::proofs::Equality::map_decides))]
     fn eq(&self, other: &UserMap) -> bool
         ensures answer { result ≡ map_eq self.now other.now }
         ensures same { Decides result (self.now ≡ other.now) }
     {
-        same_pages(&self.entries, &other.entries) && self.switches == other.switches
+        self.entries == other.entries && self.switches == other.switches
     }
 }

@@ -20,26 +20,46 @@
 
 mod recorded;
 
-use anyhow::anyhow;
 use machine::Machine;
 use memory::{Memory, PlainCore};
-use model::{Denial, Registers, Who};
+use model::{Denial, Registers, Stop, Who};
 use recorded::{Case, Group, SPACE, State, read_groups};
 use std::alloc::{AllocError, Global};
 use std::{fmt, fs};
 
 /// What is asked of all cases of a group besides what each of them tells.
-#[derive(Clone, Copy)]
-struct Terms {
-    lef: bool,
-    stop: u8,
+#[derive(Clone, Copy, PartialEq, Eq)]
+enum Terms {
+    Plain,
+    /// An I/O word is the instruction LEF.
+    Lef,
+    /// The run ends because of the call.
+    Call,
+}
+
+impl Terms {
+    fn of(name: &str) -> Terms {
+        match name {
+            "LEF" => Terms::Lef,
+            "SYC" => Terms::Call,
+            _ => Terms::Plain,
+        }
+    }
+
+    fn admits(self, stop: Stop) -> bool {
+        match stop {
+            Stop::Spent { .. } => self != Terms::Call,
+            Stop::Call { .. } => self == Terms::Call,
+            Stop::Faulted { .. } => false,
+        }
+    }
 }
 
 /// The first thing in which a case does not agree, as our machine has it.
 #[derive(Clone, Copy)]
 enum Difference {
-    /// The steps of the run, and the number of its stop.
-    Run(u16, u8),
+    /// The steps of the run, and its stop.
+    Run(u16, Stop),
     Registers(Registers),
     /// A cell's address, and its word or why there is none.
     Cell(usize, Result<u16, Denial>),
@@ -48,18 +68,18 @@ enum Difference {
 impl fmt::Display for Difference {
     fn fmt<W: fmt::Write>(&self, f: &mut fmt::Formatter<W>) -> fmt::Result {
         match *self {
-            Difference::Run(steps, stop) => write!(f, "{steps} steps, stop {stop}"),
+            Difference::Run(steps, stop) => {
+                let reason = stop.values().reason;
+                write!(f, "{steps} steps, stop {reason}")
+            }
             Difference::Registers(registers) => {
-                let pc = registers.pc;
-                let [a, b, c, d] = registers.ac;
-                let carry = u8::from(registers.carry);
+                let Registers { ac, carry, pc } = registers;
+                let [a, b, c, d] = ac;
+                let carry = u8::from(carry);
                 write!(f, "pc {pc:o}, ac {a:o} {b:o} {c:o} {d:o}, carry {carry}")
             }
             Difference::Cell(address, Ok(word)) => write!(f, "cell {address:o} is {word:o}"),
-            Difference::Cell(address, Err(denial)) => {
-                let number = denial.number();
-                write!(f, "cell {address:o} is denied with {number}")
-            }
+            Difference::Cell(address, Err(denial)) => write!(f, "cell {address:o} is {denial}"),
         }
     }
 }
@@ -68,13 +88,6 @@ impl fmt::Display for Difference {
 struct Tally {
     tried: usize,
     agreed: usize,
-}
-
-fn terms_of(name: &str) -> Terms {
-    Terms {
-        lef: name == "LEF",
-        stop: if name == "SYC" { 11 } else { 10 },
-    }
 }
 
 // The words of all cells after the case.
@@ -93,7 +106,7 @@ fn set_up<M: Memory>(machine: &mut Machine<M>, terms: Terms, start: &State) -> R
     for block in 0..32 {
         machine.map(block * 0o2000 + 0o1000 + block)?;
     }
-    if terms.lef {
+    if terms == Terms::Lef {
         machine.map(0o130)?;
     }
     for (address, word) in &start.cells {
@@ -103,13 +116,10 @@ fn set_up<M: Memory>(machine: &mut Machine<M>, terms: Terms, start: &State) -> R
 }
 
 fn compare_cells<M: Memory>(machine: &mut Machine<M>, words: &[u16]) -> Option<Difference> {
-    for (address, word) in words.iter().enumerate() {
+    words.iter().enumerate().find_map(|(address, word)| {
         let found = machine.get(address);
-        if found != Ok(*word) {
-            return Some(Difference::Cell(address, found));
-        }
-    }
-    None
+        (found != Ok(*word)).then_some(Difference::Cell(address, found))
+    })
 }
 
 fn try_case(
@@ -122,10 +132,9 @@ fn try_case(
     set_up(&mut machine, terms, &case.before)?;
     let ready = machine.start(held, case.before.registers)?;
     let ended = machine.run(ready, case.steps)?;
-    let stop = ended.stop.values().reason;
     let registers = machine.show(Who::A).registers;
-    if ended.steps != case.steps || stop != terms.stop {
-        Ok(Some(Difference::Run(ended.steps, stop)))
+    if ended.steps != case.steps || !terms.admits(ended.stop) {
+        Ok(Some(Difference::Run(ended.steps, ended.stop)))
     } else if registers != case.after.registers {
         Ok(Some(Difference::Registers(registers)))
     } else {
@@ -134,10 +143,7 @@ fn try_case(
 }
 
 fn new_core(heap: Global) -> anyhow::Result<PlainCore> {
-    match PlainCore::new(vec![in heap; 0u16; SPACE]?) {
-        Ok(core) => Ok(core),
-        Err(_) => Err(anyhow!("a core of another size")),
-    }
+    Ok(PlainCore::new(vec![in heap; 0u16; SPACE]?)?)
 }
 
 fn agrees(rt: &HostRuntime, terms: Terms, case: &Case) -> anyhow::Result<bool> {
@@ -150,15 +156,14 @@ fn agrees(rt: &HostRuntime, terms: Terms, case: &Case) -> anyhow::Result<bool> {
             Ok(false)
         }
         Err(denial) => {
-            let number = denial.number();
-            eprintln!(rt; "line {line} is denied with {number}")?;
+            eprintln!(rt; "line {line} is {denial}")?;
             Ok(false)
         }
     }
 }
 
 fn try_group(rt: &HostRuntime, group: &Group) -> anyhow::Result<Tally> {
-    let terms = terms_of(&group.name);
+    let terms = Terms::of(&group.name);
     let mut agreed = 0usize;
     for case in &group.cases {
         if agrees(rt, terms, case)? {

@@ -1,6 +1,6 @@
 //! The recorded steps, read from their text.
 
-use anyhow::anyhow;
+use anyhow::{Context, anyhow, bail, ensure};
 use model::Registers;
 use std::alloc::Global;
 use std::str::SplitWhitespace;
@@ -37,25 +37,19 @@ fn read_octal(text: &str) -> anyhow::Result<u16> {
 
 fn read_address(text: &str) -> anyhow::Result<u16> {
     let address = read_octal(text)?;
-    if usize::from(address) < SPACE {
-        Ok(address)
-    } else {
-        Err(anyhow!("an address over 077777"))
-    }
+    ensure!(usize::from(address) < SPACE, "an address over 077777");
+    Ok(address)
 }
 
 fn next<'a>(words: &mut SplitWhitespace<'a>) -> anyhow::Result<&'a str> {
-    match words.next() {
-        Some(word) => Ok(word),
-        None => Err(anyhow!("too few numbers")),
-    }
+    words.next().context("too few numbers")
 }
 
 fn read_carry(text: &str) -> anyhow::Result<bool> {
     match text {
         "0" => Ok(false),
         "1" => Ok(true),
-        _ => Err(anyhow!("a carry is 0 or 1")),
+        _ => bail!("a carry is 0 or 1"),
     }
 }
 
@@ -71,28 +65,23 @@ fn read_registers(mut words: SplitWhitespace<'_>) -> anyhow::Result<Registers> {
         ],
         carry: read_carry(next(&mut words)?)?,
     };
-    match words.next() {
-        None => Ok(registers),
-        Some(_) => Err(anyhow!("too many numbers")),
-    }
+    ensure!(words.next().is_none(), "too many numbers");
+    Ok(registers)
 }
 
 // Adds the cells of a text as `26=77514 32=145154`.
 fn read_cells(text: &str, cells: &mut Vec<(u16, u16)>) -> anyhow::Result<()> {
     for cell in text.split_whitespace() {
-        let Some((address, word)) = cell.split_once('=') else {
-            return Err(anyhow!("a cell has the form addr=word"));
-        };
+        let (address, word) = cell
+            .split_once('=')
+            .context("a cell has the form addr=word")?;
         cells.push((read_address(address)?, read_octal(word)?))?;
     }
     Ok(())
 }
 
 fn cut_at_bar(text: &str) -> anyhow::Result<(&str, &str)> {
-    match text.split_once('|') {
-        Some(parts) => Ok(parts),
-        None => Err(anyhow!("no bar before the cells")),
-    }
+    text.split_once('|').context("no bar before the cells")
 }
 
 fn read_after(heap: Global, text: &str) -> anyhow::Result<State> {
@@ -104,9 +93,7 @@ fn read_after(heap: Global, text: &str) -> anyhow::Result<State> {
 }
 
 fn read_case(heap: Global, line: usize, text: &str) -> anyhow::Result<Case> {
-    let Some((before, after)) = text.split_once("->") else {
-        return Err(anyhow!("no arrow"));
-    };
+    let (before, after) = text.split_once("->").context("no arrow")?;
     let (numbers, named) = cut_at_bar(before)?;
     let mut words = numbers.split_whitespace();
     let steps = read_octal(next(&mut words)?)?;
@@ -126,9 +113,7 @@ fn read_case(heap: Global, line: usize, text: &str) -> anyhow::Result<Case> {
 }
 
 fn begin_group(heap: Global, groups: &mut Vec<Group>, name: &str) -> anyhow::Result<()> {
-    if name.contains(' ') {
-        return Err(anyhow!("the name of a group is one word"));
-    }
+    ensure!(!name.contains(' '), "the name of a group is one word");
     groups.push(Group {
         name: String::from_str(heap, name)?,
         cases: Vec::new(heap),
@@ -144,10 +129,8 @@ fn add_line(heap: Global, groups: &mut Vec<Group>, line: usize, text: &str) -> a
         return begin_group(heap, groups, name);
     }
     let case = read_case(heap, line, text)?;
-    match groups.last_mut() {
-        Some(group) => Ok(group.cases.push(case)?),
-        None => Err(anyhow!("a case before the first group")),
-    }
+    let group = groups.last_mut().context("a case before the first group")?;
+    Ok(group.cases.push(case)?)
 }
 
 /// The groups of a text, in its order. The first malformed line is an error that names it.
@@ -155,9 +138,9 @@ pub(crate) fn read_groups(heap: Global, text: &str) -> anyhow::Result<Vec<Group>
     let mut groups = Vec::new(heap);
     for (index, text) in text.lines().enumerate() {
         let line = index.saturating_add(1);
-        if let Err(fault) = add_line(heap, &mut groups, line, text) {
-            return Err(anyhow!(format!(in heap; "line {line} of steps.txt: {fault}")?));
-        }
+        add_line(heap, &mut groups, line, text).map_err(|fault| anyhow!(
+            "line {line} of steps.txt: {fault}"
+        ))?;
     }
     Ok(groups)
 }

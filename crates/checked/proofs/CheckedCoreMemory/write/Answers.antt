@@ -5,9 +5,4 @@ use Rattle.checked.proofs.CheckedCoreMemory.write.Goals as goal
 pub returns : goal.returns
 returns c =
     let d = decoded_sound _ c.encode.ensures.sound c.encode.ensures.below in
-    record {
-      answer = search rules;
-      after = search (rules, d);
-      leaves = search (rules, d);
-      keeps = search rules;
-    }
+    record { answer = search rules; after = search (rules, d); leaves = search (rules, d); keeps = search rules }

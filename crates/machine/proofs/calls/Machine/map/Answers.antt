@@ -1,39 +1,28 @@
-use Rattle.std.proofs.Common.{sym, refl, ap, ◌∙◌}
-use Rattle.model.specs.declared.user.Who.{Who}
-use Rattle.model.specs.Machine.{of, map, Deed, wordless}
-use Rattle.model.proofs.Pasts.{made, did_sense, did_a, did_b}
+use Rattle.std.proofs.Common.{◌≡◌, sym, refl, ap, ◌∙◌, rules}
+use Rattle.model.specs.Machine.{map, Deed, Answer, State, denied}
+use Rattle.model.proofs.Pasts.{made}
+use Rattle.machine.specs.Calls.{answered, meant}
 use Rattle.machine.specs.Machine.{modelled}
-use Rattle.machine.proofs.Answered.{unlisted_did}
+use Rattle.machine.specs.declared.setting.Setting.{Setting}
+use Rattle.machine.proofs.Answered.{user_did}
 use Rattle.machine.proofs.calls.Machine.map.Goals as goal
 
-pub returns-in-Neither : goal.returns-in-Neither
-returns-in-Neither g c = made _ _ _ _ (did_sense (modelled g.M.Memory.cells c.args.self.now) (map c.args.word) wordless _ _ c.in-Neither.ensures.meaning refl refl)
+pub returns-in_err-who : goal.returns-in_err-who
+returns-in_err-who g c =
+    let e : answered c.from_residual.result ≡ denied c.in_err-who.field-0.0 = search rules in
+    let d = c.in_err-who.ensures (modelled g.M.Memory.cells c.args.self.now) in
+    made _ _ _ _ (record { answer = e ∙ sym (ap (λ (p : Answer × State). p.0) d); after = sym (ap (λ (p : Answer × State). p.1) d) })
 
-pub returns-in-A : goal.returns-in-A
-returns-in-A g c =
-    made _ _ _ _ (did_a (modelled g.M.Memory.cells c.args.self.now) (map c.args.word) (Deed.status c.in-Status.switches) _ _ _
-    (ap (λ (who : Who). of who (Deed.status c.in-Status.switches)) (sym c.in-A.is) ∙ c.in-Status.ensures.meaning)
+pub returns-in-Entry : goal.returns-in-Entry
+returns-in-Entry g c =
+    let entry = c.in-Entry.entry in
+    made _ _ _ _
+    (user_did c.args.self.now.users _ _ (map c.args.word) c.in_ok-who.who (Deed.block entry.logical entry.protected entry.block) _ _ _
+    (ap (λ (s : Setting). meant (c.in_ok-who.who, s)) (sym c.in-Entry.is) ∙ c.in_ok-who.ensures) c.of_mut-user.ensures.value c.assign.ensures)
+
+pub returns-in-Switches : goal.returns-in-Switches
+returns-in-Switches g c =
+    made _ _ _ _
+    (user_did c.args.self.now.users _ _ (map c.args.word) c.in_ok-who.who (Deed.status c.in-Switches.switches) _ _ _
+    (ap (λ (s : Setting). meant (c.in_ok-who.who, s)) (sym c.in-Switches.is) ∙ c.in_ok-who.ensures) c.of_mut-user.ensures.value
     (record { answer = refl; user = refl; cells = refl }))
-
-pub returns-in-B : goal.returns-in-B
-returns-in-B g c =
-    made _ _ _ _ (did_b (modelled g.M.Memory.cells c.args.self.now) (map c.args.word) (Deed.status c.in-Status.switches) _ _ _
-    (ap (λ (who : Who). of who (Deed.status c.in-Status.switches)) (sym c.in-B.is) ∙ c.in-Status.ensures.meaning)
-    (record { answer = refl; user = refl; cells = refl }))
-
-pub returns-in-A-who : goal.returns-in-A-who
-returns-in-A-who g c =
-    let d = Deed.block c.in-Block.logical c.in-Block.protected c.in-Block.block in
-    made _ _ _ _ (did_a (modelled g.M.Memory.cells c.args.self.now) (map c.args.word) d _ _ _
-    (ap (λ (who : Who). of who d) (sym c.in-A-who.is) ∙ c.in-Block.ensures.meaning)
-    c.assign.ensures)
-
-pub returns-in-B-who : goal.returns-in-B-who
-returns-in-B-who g c =
-    let d = Deed.block c.in-Block.logical c.in-Block.protected c.in-Block.block in
-    made _ _ _ _ (did_b (modelled g.M.Memory.cells c.args.self.now) (map c.args.word) d _ _ _
-    (ap (λ (who : Who). of who d) (sym c.in-B-who.is) ∙ c.in-Block.ensures.meaning)
-    c.assign-in-B-who.ensures)
-
-pub returns-in-Unlisted : goal.returns-in-Unlisted
-returns-in-Unlisted g c = made _ _ _ _ (unlisted_did (modelled g.M.Memory.cells c.args.self.now) (map c.args.word) _ c.in-Unlisted.ensures.meaning)
