@@ -10,7 +10,7 @@ use std::io::{Read, Write};
 // Writes the report of the sheet, and empties it for the next.
 fn report(rt: &HostRuntime, sheet: &mut Vec<u8>) -> anyhow::Result<()> {
     let report = sheets::report::carry_out(rt.alloc(), sheet)?;
-    rt.stdout().write_all(&report)?;
+    rt.stdout().write_all(report.as_bytes())?;
     sheet.clear();
     Ok(())
 }

@@ -1,10 +1,11 @@
-ghost use Rattle.std.specs.Prelude.{◌≡◌, ◌++◌, OnOk};
+ghost use Rattle.std.specs.Prelude.{◌≡◌, ◌++◌, OnOk, string_bytes};
 ghost use Rattle.model.specs.Numbers.{number_of};
 ghost use Rattle.sheets.specs.Lines.{quiet as quiet_line, line_bytes};
 
 use model::{Denial, Registers};
 use std::alloc::AllocError;
-use writing::put_line;
+use std::fmt::Write;
+use writing::OctalLine;
 
 /// What a row shows after its number.
 #[derive(Clone, Copy)]
@@ -39,24 +40,25 @@ pub(crate) fn denied(reason: Denial) -> Line
 }
 
 /// Appends a line to the report.
-pub(crate) fn append(out: &mut Vec<u8>, number: u16, line: Line) -> Result<(), AllocError>
-    ensures { OnOk result (out.new.items ≡ out.old.items ++ line_bytes number line) }
+pub(crate) fn append(out: &mut String, number: u16, line: Line) -> Result<(), AllocError>
+    ensures { OnOk result (string_bytes out.new ≡ string_bytes out.old ++ line_bytes number line) }
 {
     let Registers { ac, carry, pc } = line.registers;
     let [ac0, ac1, ac2, ac3] = ac;
-    put_line(
-        out,
-        number,
-        &[
-            line.answer,
-            line.stop,
-            line.steps,
-            pc,
-            ac0,
-            ac1,
-            ac2,
-            ac3,
-            u16::from(carry),
-        ],
-    )
+    let others = [
+        line.answer,
+        line.stop,
+        line.steps,
+        pc,
+        ac0,
+        ac1,
+        ac2,
+        ac3,
+        u16::from(carry),
+    ];
+    let octal = OctalLine {
+        first: number,
+        others: &others,
+    };
+    write!(out, "{octal}")
 }

@@ -1,6 +1,6 @@
 //! The report of a sheet.
 
-ghost use Rattle.std.specs.Prelude.{◌≡◌, ℕ, ◌≤◌, ◌++◌, length, IfOk, OnOk};
+ghost use Rattle.std.specs.Prelude.{◌≡◌, ℕ, ◌≤◌, ◌++◌, length, IfOk, OnOk, string_bytes};
 ghost use Rattle.model.specs.Machine.{fresh};
 ghost use Rattle.machine.specs.Machine.{modelled};
 ghost use Rattle.sheets.specs.Desks.{Fitting, core_cells};
@@ -15,7 +15,7 @@ use reading::{open_sheet, read_row};
 use std::alloc::{AllocError, Global};
 
 /// The first line of a report, with its newline.
-const HEADING: &[u8] = b"row answer stop steps pc ac0 ac1 ac2 ac3 carry\n";
+const HEADING: &str = "row answer stop steps pc ac0 ac1 ac2 ac3 carry\n";
 
 /// The words of 16 blocks of 1,024.
 const CORE: usize = 16 * 1024;
@@ -37,13 +37,13 @@ fn new_desk(heap: Global) -> Result<Desk<PlainCore>, AllocError>
 
 // The lines of the rows. A wrong row is the last.
 fn put_rows<M: Memory + Drop>(
-    out: &mut Vec<u8>,
+    out: &mut String,
     start: Desk<M>,
     text: &[u8],
 ) -> Result<(), AllocError>
     requires fits { Fitting start }
     requires bound { length text.now ≤ 4096 }
-    ensures { OnOk result (out.new.items ≡ out.old.items ++ rows (length text.now) (modelled M.Memory.cells start.machine) 1 text.now) }
+    ensures { OnOk result (string_bytes out.new ≡ string_bytes out.old ++ rows (length text.now) (modelled M.Memory.cells start.machine) 1 text.now) }
 {
     let mut desk = start;
     let mut number = 1;
@@ -63,10 +63,10 @@ fn put_rows<M: Memory + Drop>(
 
 /// The report of a sheet: a heading, and a line for each row. A sheet of a wrong first line, or too long a one, has a
 /// wrong row 0, and none is carried out.
-pub fn carry_out(heap: Global, sheet: &[u8]) -> Result<Vec<u8>, AllocError>
-    ensures { IfOk result (λ v. v.items ≡ reported sheet.now) }
+pub fn carry_out(heap: Global, sheet: &[u8]) -> Result<String, AllocError>
+    ensures { IfOk result (λ t. string_bytes t ≡ reported sheet.now) }
 {
-    let mut out = Vec::from_slice(heap, HEADING)?;
+    let mut out = String::from_str(heap, HEADING)?;
     match open_sheet(sheet) {
         Some(text) => put_rows(&mut out, new_desk(heap)?, text)?,
         None => append(&mut out, 0, denied(Denial::Sheet))?,

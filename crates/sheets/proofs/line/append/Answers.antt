@@ -1,6 +1,6 @@
-use Rattle.std.proofs.Common.{◌∙◌}
+use Rattle.std.proofs.Common.{rules}
 use Rattle.sheets.proofs.Numbers.{carry_number}
 use Rattle.sheets.proofs.line.append.Goals as goal
 
 pub returns : goal.returns
-returns c = let e = c.from.ensures ∙ carry_number c.args.line.registers.carry in simp (← e) c.put_line.ensures
+returns c = let e = carry_number c.args.line.registers.carry in search (rules, e)
