@@ -1,4 +1,5 @@
 use Rattle.std.proofs.Common.{◌≡◌, ℕ, zero, suc, ◌+◌, ◌-◌, ◌*◌, ◌<◌, ◌≤◌, cond, ltb, List, [], ◌∷◌, ◌++◌, length, Some, None, Option, refl, ap, ◌∙◌, subst, arith}
+use Rattle.std.proofs.lemmas.List.{length-append}
 use Rattle.reading.specs.declared.row.Fields.{Fields}
 use Rattle.reading.specs.Read.{digit, after, further, number, field, fields, either, ending}
 use Rattle.reading.specs.Spelling.{Octal, spelt, Spells, Written, ReadsWhatIsWritten}
@@ -174,4 +175,9 @@ fields_front bs cs f e =
     s3.second
 
 pub reads_what_is_written : ReadsWhatIsWritten
+unfolding ReadsWhatIsWritten
 reads_what_is_written bs cs f = (fields_front bs cs f, fields_whole bs cs f)
+
+-- a row takes at least its newline
+pub fields_shorter : (bs cs : List ℕ) (f : Fields) → fields bs ≡ Some (f, cs) → length cs < length bs
+fields_shorter bs cs f e = let t = (fields_front bs cs f e).text in grind (arith, t, length-append)
