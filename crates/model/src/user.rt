@@ -1,4 +1,4 @@
-ghost use Rattle.std.specs.Prelude.{◌≡◌, Decides};
+ghost use Rattle.std.specs.Prelude.{◌≡◌, Decides, false, replicate};
 ghost use Rattle.model.specs.Equality.{registers_eq, map_eq, map_laws};
 ghost use Rattle.std.specs.Cmp.Rules.{comparing};
 ghost use Rattle.std.proofs.Common.{rules};
@@ -18,6 +18,19 @@ pub struct Registers {
     pub ac: [u16; 4],
     pub carry: bool,
     pub pc: u16,
+}
+
+impl Registers {
+    /// Registers of 0 but for the PC.
+    pub fn at(pc: u16) -> Registers
+        ensures { result ≡ record { ac = replicate 4 0; carry = false; pc = pc } }
+    {
+        Registers {
+            ac: [0; 4],
+            carry: false,
+            pc,
+        }
+    }
 }
 
 /// A user's three switches: whether an I/O word is the instruction LEF, whether write protection is on, and

@@ -1,11 +1,10 @@
 -- The report of a sheet, byte by byte.
-use Rattle.std.specs.Prelude.{ℕ, zero, suc, ◌+◌, ◌*◌, cond, List, [], ◌∷◌, ◌++◌, length, replicate, Some, None, codes, Option, ◌==◌}
+use Rattle.std.specs.Prelude.{ℕ, zero, suc, ◌+◌, ◌*◌, cond, List, [], ◌∷◌, ◌++◌, length, replicate, Some, None, Err, codes, Option, ◌==◌}
 use Rattle.memory.specs.Cells.{Row as Cells, sound}
 use Rattle.model.specs.declared.denial.Denial.TheVariants.{Sheet}
-use Rattle.model.specs.Numbers.{number_of}
 use Rattle.model.specs.Machine.{State, fresh}
 use Rattle.reading.specs.Read.{opened, either, row}
-use Rattle.sheets.specs.Lines.{quiet, line_bytes}
+use Rattle.sheets.specs.Lines.{line_bytes}
 use Rattle.sheets.specs.Rows.{carried_out}
 
 abbrev pub heading : List ℕ
@@ -13,7 +12,7 @@ heading = codes "row answer stop steps pc ac0 ac1 ac2 ac3 carry" ++ (10 ∷ [])
 
 -- a wrong row shows its number, the denial and zeros
 abbrev pub wrong : ℕ → List ℕ
-wrong n = line_bytes n (quiet (number_of Sheet))
+wrong n = line_bytes n (Err Sheet)
 
 -- the lines of the rows from row n on, of which there are at most k; a wrong row is the last
 abbrev pub rows : ℕ → State → ℕ → List ℕ → List ℕ

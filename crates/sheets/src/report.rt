@@ -3,16 +3,16 @@
 ghost use Rattle.std.specs.Prelude.{◌≡◌, ℕ, ◌≤◌, ◌++◌, length, IfOk, OnOk, string_bytes};
 ghost use Rattle.model.specs.Machine.{fresh};
 ghost use Rattle.machine.specs.Machine.{modelled};
-ghost use Rattle.sheets.specs.Desks.{Fitting, core_cells};
+ghost use Rattle.sheets.specs.Desks.{core_cells};
 ghost use Rattle.sheets.specs.Report.{blank, rows, report as reported};
 
 use crate::desk::Desk;
-use crate::line::{append, denied};
+use crate::line::Line;
 use machine::{Machine, Permit};
 use memory::{Memory, PlainCore};
-use model::Denial;
 use reading::{open_sheet, read_row};
 use std::alloc::{AllocError, Global};
+use std::fmt::Write;
 
 /// The first line of a report, with its newline.
 const HEADING: &str = "row answer stop steps pc ac0 ac1 ac2 ac3 carry\n";
@@ -22,7 +22,7 @@ const CORE: usize = 16 * 1024;
 
 // A new machine over plain core of zeros, and its permits. Want of memory is the one way to fail: the core is whole.
 fn new_desk(heap: Global) -> Result<Desk<PlainCore>, AllocError>
-    ensures { IfOk result (λ d. (modelled core_cells d.machine ≡ fresh blank) × Fitting d) }
+    ensures { IfOk result (λ d. modelled core_cells d.machine ≡ fresh blank) }
 {
     let Ok(core) = PlainCore::new(vec![in heap; 0u16; CORE]?) else {
         unreachable()
@@ -38,23 +38,21 @@ fn new_desk(heap: Global) -> Result<Desk<PlainCore>, AllocError>
 // The lines of the rows. A wrong row is the last.
 fn put_rows<M: Memory + Drop>(
     out: &mut String,
-    start: Desk<M>,
+    mut desk: Desk<M>,
     text: &[u8],
 ) -> Result<(), AllocError>
-    requires fits { Fitting start }
-    requires bound { length text.now ≤ 4096 }
-    ensures { OnOk result (string_bytes out.new ≡ string_bytes out.old ++ rows (length text.now) (modelled M.Memory.cells start.machine) 1 text.now) }
+    requires { length text.now ≤ 4096 }
+    ensures { OnOk result (string_bytes out.new ≡ string_bytes out.old ++ rows (length text.now) (modelled M.Memory.cells desk.machine) 1 text.now) }
 {
-    let mut desk = start;
     let mut number = 1;
     let mut rest = text;
     while !rest.is_empty() {
         let Some((row, tail)) = read_row(rest) else {
-            return append(out, number, denied(Denial::Sheet));
+            return write!(out, "{}", Line::wrong(number));
         };
-        let (line, next) = desk.act(row);
+        let (outcome, next) = desk.act(row);
         desk = next;
-        append(out, number, line)?;
+        write!(out, "{}", Line { number, outcome })?;
         number += 1;
         rest = tail;
     }
@@ -69,7 +67,7 @@ pub fn carry_out(heap: Global, sheet: &[u8]) -> Result<String, AllocError>
     let mut out = String::from_str(heap, HEADING)?;
     match open_sheet(sheet) {
         Some(text) => put_rows(&mut out, new_desk(heap)?, text)?,
-        None => append(&mut out, 0, denied(Denial::Sheet))?,
+        None => write!(out, "{}", Line::wrong(0))?,
     }
     Ok(out)
 }

@@ -12,7 +12,7 @@ returns-in_default g c =
 pub loop-rest-preserved : goal.loop-rest-preserved
 loop-rest-preserved g c =
     let k : length c.args.text.now + 1 - c.loop-rest.number ≡ suc (length c.args.text.now + 1 - (c.loop-rest.number + 1)) = search rules in
-    (grind (arith, k, append_assoc), search rules, search rules, c.act-next.ensures.fits)
+    (grind (arith, k, append_assoc), search rules, search rules)
 
 pub returns : goal.returns
 returns g c =

@@ -1,6 +1,5 @@
 use Rattle.std.proofs.Common.{◌≡◌, ◌+◌, ◌-◌, ◌≤◌, ◌++◌, length, string_bytes}
 use Rattle.machine.specs.Machine.{modelled}
-use Rattle.sheets.specs.Desks.{Fitting}
 use Rattle.sheets.specs.Report.{rows}
 use Rattle.sheets.proofs.report.put_rows.Given as goal
 
@@ -11,7 +10,6 @@ invariant-loop-rest g l =
     ≡ string_bytes l.out ++ rows (length l.initial.rest + 1 - l.number) (modelled g.M.Memory.cells l.desk.machine) l.number l.rest)
     × (l.number + length l.rest ≤ length l.initial.rest + 1)
     × (1 ≤ l.number)
-    × Fitting l.desk
 
 abbrev pub decreases-loop-rest : goal.decreases-loop-rest
 decreases-loop-rest g l = length l.rest
