@@ -1,2 +1,3 @@
 pub mod Prefix
+pub mod RowLemmas
 pub mod Spelt

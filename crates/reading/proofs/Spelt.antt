@@ -62,13 +62,13 @@ fields_whole bs cs f w =
     let q = field_whole w.d3 f.word 10 cs w.word (omega arith) in
     rw t (rw a (rw u (rw p (rw q refl))))
 
-record Step {X Y : Type 0} (o : Option (X × List ℕ)) (k : X → List ℕ → Option (Y × List ℕ)) (y : Y) (cs : List ℕ) : Type 0 where
-  x : X
-  mid : List ℕ
-  first : o ≡ Some (x, mid)
-  second : k x mid ≡ Some (y, cs)
+pub record Step {X Y : Type 0} (o : Option (X × List ℕ)) (k : X → List ℕ → Option (Y × List ℕ)) (y : Y) (cs : List ℕ) : Type 0 where
+  pub x : X
+  pub mid : List ℕ
+  pub first : o ≡ Some (x, mid)
+  pub second : k x mid ≡ Some (y, cs)
 
-step : {X Y : Type 0} (o : Option (X × List ℕ)) (k : X → List ℕ → Option (Y × List ℕ)) (y : Y) (cs : List ℕ) → either o None k ≡ Some (y, cs) → Step o k y cs
+pub step : {X Y : Type 0} (o : Option (X × List ℕ)) (k : X → List ℕ → Option (Y × List ℕ)) (y : Y) (cs : List ℕ) → either o None k ≡ Some (y, cs) → Step o k y cs
 step None k y cs e = let z : ⊥ = grind arith in elim z [ ]
 step (Some (x, mid)) k y cs e = record { x = x; mid = mid; first = refl; second = e }
 

@@ -1,4 +1,4 @@
-ghost use Rattle.std.specs.Prelude.{◌≡◌, ℕ, Some, Err};
+ghost use Rattle.std.specs.Prelude.{◌≡◌, ℕ, Some};
 ghost use Rattle.sheets.specs.Lines.{quiet as quiet_row, numbers as line_numbers, line_bytes};
 
 use model::{Denial, Registers, Stop};
@@ -32,16 +32,6 @@ pub(crate) struct Line {
 }
 
 impl Line {
-    /// The line of a wrong row.
-    pub(crate) fn wrong(number: u16) -> Line
-        ensures { result ≡ record { number = number; outcome = Err Denial.Sheet } }
-    {
-        Line {
-            number,
-            outcome: Err(Denial::Sheet),
-        }
-    }
-
     // The numbers after the first. A denied row shows the number of its denial, and zeros.
     fn numbers(self) -> [u16; 9]
         ensures { result ≡ line_numbers self.outcome }

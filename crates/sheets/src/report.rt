@@ -4,13 +4,15 @@ ghost use Rattle.std.specs.Prelude.{◌≡◌, ℕ, ◌≤◌, ◌++◌, length,
 ghost use Rattle.model.specs.Machine.{fresh};
 ghost use Rattle.machine.specs.Machine.{modelled};
 ghost use Rattle.sheets.specs.Desks.{core_cells};
-ghost use Rattle.sheets.specs.Report.{blank, rows, report as reported};
+ghost use Rattle.reading.specs.Rows.{rows};
+ghost use Rattle.sheets.specs.Report.{blank, lines, report as reported};
 
 use crate::desk::Desk;
 use crate::line::Line;
 use machine::{Machine, Permit};
 use memory::{Memory, PlainCore};
-use reading::{open_sheet, read_row};
+use model::Denial;
+use reading::{Rows, open_sheet};
 use std::alloc::{AllocError, Global};
 use std::fmt::Write;
 
@@ -35,26 +37,25 @@ fn new_desk(heap: Global) -> Result<Desk<PlainCore>, AllocError>
     })
 }
 
-// The lines of the rows. A wrong row is the last.
+// The lines of the rows.
 fn put_rows<M: Memory + Drop>(
     out: &mut String,
     mut desk: Desk<M>,
     text: &[u8],
 ) -> Result<(), AllocError>
     requires { length text.now ≤ 4096 }
-    ensures { OnOk result (string_bytes out.new ≡ string_bytes out.old ++ rows (length text.now) (modelled M.Memory.cells desk.machine) 1 text.now) }
+    ensures { OnOk result (string_bytes out.new ≡ string_bytes out.old ++ lines (modelled M.Memory.cells desk.machine) 1 (rows text.now)) }
 {
-    let mut number = 1;
-    let mut rest = text;
-    while !rest.is_empty() {
-        let Some((row, tail)) = read_row(rest) else {
-            return write!(out, "{}", Line::wrong(number));
+    for (number, row) in (1u16..).zip(Rows { text }) {
+        let outcome = match row {
+            Ok(row) => {
+                let (outcome, next) = desk.act(row);
+                desk = next;
+                outcome
+            }
+            Err(reason) => Err(reason),
         };
-        let (outcome, next) = desk.act(row);
-        desk = next;
         write!(out, "{}", Line { number, outcome })?;
-        number += 1;
-        rest = tail;
     }
     Ok(())
 }
@@ -67,7 +68,13 @@ pub fn carry_out(heap: Global, sheet: &[u8]) -> Result<String, AllocError>
     let mut out = String::from_str(heap, HEADING)?;
     match open_sheet(sheet) {
         Some(text) => put_rows(&mut out, new_desk(heap)?, text)?,
-        None => write!(out, "{}", Line::wrong(0))?,
+        None => {
+            let wrong = Line {
+                number: 0,
+                outcome: Err(Denial::Sheet),
+            };
+            write!(out, "{wrong}")?
+        }
     }
     Ok(out)
 }
