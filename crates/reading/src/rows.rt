@@ -9,6 +9,7 @@ use model::Denial;
 /// The rows of a text, in order. A wrong row is denied, and is the last.
 #[derive(Clone, Copy, Debug)]
 pub struct Rows<'a> {
+    /// What is left to read.
     pub text: &'a [u8],
 }
 

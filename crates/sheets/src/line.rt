@@ -41,8 +41,11 @@ impl Line {
             Err(reason) => (reason.number(), quiet()),
         };
         let stop = granted.stop.map_or(0, |stop| stop.values().reason);
-        let Registers { ac, carry, pc } = granted.registers;
-        let [ac0, ac1, ac2, ac3] = ac;
+        let Registers {
+            ac: [ac0, ac1, ac2, ac3],
+            carry,
+            pc,
+        } = granted.registers;
         [
             u16::from(answer),
             u16::from(stop),
