@@ -1,43 +1,42 @@
 //! Carries out many sheets, one after the other, and writes the report of each under its name.
 //!
 //! A line `= NAME` begins a case, and its sheet is all that stands up to the next such line. A last line `~` is no
-//! part of the sheet, and neither is the newline before it: so a sheet may end without one.
+//! part of the sheet, and neither is the newline before it: so a sheet may end without one. Text before the first case
+//! is the start of its sheet. A line without a newline at the end of the text is left out.
 
 #![tactic(auto)]
 
+use std::alloc::Global;
 use std::io::{Read, Write};
 
-// Writes the report of the sheet, and empties it for the next.
-fn report(rt: &HostRuntime, sheet: &mut Vec<u8>) -> anyhow::Result<()> {
-    let report = sheets::report::carry_out(rt.alloc(), sheet)?;
-    rt.stdout().write_all(&report)?;
-    sheet.clear();
+// Writes the name of a case, and the report of its sheet.
+fn report(out: &mut impl Write, heap: Global, name: &[u8], sheet: &[u8]) -> anyhow::Result<()> {
+    out.write_all(name)?;
+    let report = sheets::report::carry_out(heap, sheet)?;
+    out.write_all(report.as_bytes())?;
     Ok(())
 }
 
 fn main(rt: HostRuntime) -> anyhow::Result<()> {
     let mut text = Vec::new(rt.alloc());
     rt.stdin().take(1_000_000).read_to_end(&mut text)?;
-    let mut line = Vec::new(rt.alloc());
+    let mut out = rt.stdout();
+    let mut name = None;
     let mut sheet = Vec::new(rt.alloc());
-    let mut begun = false;
-    for byte in &text {
-        line.push(*byte)?;
-        if *byte != b'\n' {
-            continue;
-        }
+    let lines = text
+        .split_inclusive(|byte| *byte == b'\n')
+        .filter(|line| line.ends_with(b"\n"));
+    for line in lines {
         if line.starts_with(b"= ") {
-            if begun {
-                report(&rt, &mut sheet)?;
+            if let Some(before) = name.replace(line) {
+                report(&mut out, rt.alloc(), before, &sheet)?;
+                sheet.clear();
             }
-            begun = true;
-            rt.stdout().write_all(&line)?;
-        } else if line.as_slice() == b"~\n".as_slice() {
-            let _ = sheet.pop();
+        } else if line == b"~\n".as_slice() {
+            sheet.pop();
         } else {
-            sheet.extend_from_slice(&line)?;
+            sheet.extend_from_slice(line)?;
         }
-        line.clear();
     }
-    report(&rt, &mut sheet)
+    report(&mut out, rt.alloc(), name.unwrap_or(b""), &sheet)
 }

@@ -20,6 +20,19 @@ pub struct Registers {
     pub pc: u16,
 }
 
+impl Registers {
+    /// Registers of 0 but for the PC.
+    pub fn at(pc: u16) -> Registers
+        ensures { result ≡ record { ac = replicate 4 0; carry = false; pc = pc } }
+    {
+        Registers {
+            ac: [0; 4],
+            carry: false,
+            pc,
+        }
+    }
+}
+
 /// A user's three switches: whether an I/O word is the instruction LEF, whether write protection is on, and
 /// whether indirect protection is on.
 #[derive(Clone, Copy, PartialEq, Eq, Debug)]
@@ -58,19 +71,6 @@ pub struct User {
     pub map: UserMap,
     pub kind: Kind,
     pub latest: Option<Stop>,
-}
-
-impl Registers {
-    /// Registers of 0 but for the PC.
-    pub fn at(pc: u16) -> Registers
-        ensures { result ≡ record { ac = replicate 4 0; carry = false; pc = pc } }
-    {
-        Registers {
-            ac: [0; 4],
-            carry: false,
-            pc,
-        }
-    }
 }
 
 // By hand, since a derived test would have no clause that says that equal values are one.

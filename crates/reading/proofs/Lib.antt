@@ -1,1 +1,3 @@
+pub mod Prefix
+pub mod RowLemmas
 pub mod Spelt

@@ -1,4 +1,5 @@
 use Rattle.std.proofs.Common.{◌≡◌, ℕ, zero, suc, ◌+◌, ◌-◌, ◌*◌, ◌<◌, ◌≤◌, cond, ltb, List, [], ◌∷◌, ◌++◌, length, Some, None, Option, refl, ap, ◌∙◌, subst, arith}
+use Rattle.std.proofs.lemmas.List.{length-append}
 use Rattle.reading.specs.declared.row.Fields.{Fields}
 use Rattle.reading.specs.Read.{digit, after, further, number, field, fields, either, ending}
 use Rattle.reading.specs.Spelling.{Octal, spelt, Spells, Written, ReadsWhatIsWritten}
@@ -61,13 +62,13 @@ fields_whole bs cs f w =
     let q = field_whole w.d3 f.word 10 cs w.word (omega arith) in
     rw t (rw a (rw u (rw p (rw q refl))))
 
-record Step {X Y : Type 0} (o : Option (X × List ℕ)) (k : X → List ℕ → Option (Y × List ℕ)) (y : Y) (cs : List ℕ) : Type 0 where
-  x : X
-  mid : List ℕ
-  first : o ≡ Some (x, mid)
-  second : k x mid ≡ Some (y, cs)
+pub record Step {X Y : Type 0} (o : Option (X × List ℕ)) (k : X → List ℕ → Option (Y × List ℕ)) (y : Y) (cs : List ℕ) : Type 0 where
+  pub x : X
+  pub mid : List ℕ
+  pub first : o ≡ Some (x, mid)
+  pub second : k x mid ≡ Some (y, cs)
 
-step : {X Y : Type 0} (o : Option (X × List ℕ)) (k : X → List ℕ → Option (Y × List ℕ)) (y : Y) (cs : List ℕ) → either o None k ≡ Some (y, cs) → Step o k y cs
+pub step : {X Y : Type 0} (o : Option (X × List ℕ)) (k : X → List ℕ → Option (Y × List ℕ)) (y : Y) (cs : List ℕ) → either o None k ≡ Some (y, cs) → Step o k y cs
 step None k y cs e = let z : ⊥ = grind arith in elim z [ ]
 step (Some (x, mid)) k y cs e = record { x = x; mid = mid; first = refl; second = e }
 
@@ -174,4 +175,9 @@ fields_front bs cs f e =
     s3.second
 
 pub reads_what_is_written : ReadsWhatIsWritten
+unfolding ReadsWhatIsWritten
 reads_what_is_written bs cs f = (fields_front bs cs f, fields_whole bs cs f)
+
+-- a row takes at least its newline
+pub fields_shorter : (bs cs : List ℕ) (f : Fields) → fields bs ≡ Some (f, cs) → length cs < length bs
+fields_shorter bs cs f e = let t = (fields_front bs cs f e).text in grind (arith, t, length-append)

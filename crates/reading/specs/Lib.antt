@@ -1,2 +1,3 @@
 pub mod Read
+pub mod Rows
 pub mod Spelling

@@ -32,6 +32,6 @@ pub record Written (bs : List ℕ) (f : Fields) (cs : List ℕ) : Type 0 where
   pub at : Spells d2 f.at
   pub word : Spells d3 f.word
 
-abbrev pub ReadsWhatIsWritten : Type 0
+unfoldable pub ReadsWhatIsWritten : Type 0
 ReadsWhatIsWritten =
     (bs cs : List ℕ) (f : Fields) → (fields bs ≡ Some (f, cs) → Written bs f cs) × (Written bs f cs → fields bs ≡ Some (f, cs))

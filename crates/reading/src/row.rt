@@ -1,3 +1,6 @@
+ghost use Rattle.std.specs.Prelude.{◌≡◌};
+ghost use Rattle.reading.specs.Read.{who, meant};
+
 use model::Who;
 
 /// What a row of a sheet asks for.
@@ -16,4 +19,38 @@ pub(crate) struct Fields {
     pub(crate) user: u16,
     pub(crate) at: u16,
     pub(crate) word: u16,
+}
+
+// A wrong row has no reason to tell, so that an Option serves here and no TryFrom, whose error would be dropped at once.
+impl Fields {
+    /// What the four numbers ask for. `do` 0 maps `word`, 1 puts `word` at `at`, 2 starts `user` at `at`, 3 runs `user`
+    /// with budget `word`. A field that `do` does not name must be 0, and a `do` over 3 is wrong.
+    pub(crate) fn meaning(self) -> Option<Row>
+        ensures { result ≡ meant self }
+    {
+        match (self.act, self.user, self.at, self.word) {
+            (0, 0, 0, word) => Some(Row::Map(word)),
+            (1, 0, at, word) => Some(Row::Put { at, word }),
+            (2, user, at, 0) => Some(Row::Start {
+                user: who_of(user)?,
+                at,
+            }),
+            (3, user, 0, budget) => Some(Row::Run {
+                user: who_of(user)?,
+                budget,
+            }),
+            _ => None,
+        }
+    }
+}
+
+/// User 0 is A and 1 is B. A user over 1 is wrong.
+fn who_of(user: u16) -> Option<Who>
+    ensures { result ≡ who user }
+{
+    match user {
+        0 => Some(Who::A),
+        1 => Some(Who::B),
+        _ => None,
+    }
 }

@@ -1,9 +1,8 @@
 ghost use Rattle.std.specs.Prelude.{◌≡◌, ℕ, ◌+◌, ◌<◌, ◌≤◌, length, IfSome};
 ghost use Rattle.reading.specs.Spelling.{ReadsWhatIsWritten};
-ghost use Rattle.reading.specs.Read.{after, left, opened, digit, number, field, fields, who, meant, row, taken};
+ghost use Rattle.reading.specs.Read.{after, left, opened, digit, number, field, fields, row, taken};
 
 use crate::row::{Fields, Row};
-use model::Who;
 
 /// The first line of a sheet, with its newline.
 const FIRST_LINE: &[u8] = b"do user at word\n";
@@ -15,23 +14,12 @@ const LONGEST: usize = 4096;
 const BEFORE_LAST: u16 = 0o17777;
 
 /// What follows `word` in the text, if the text begins with it.
+#[tactic(auto, using(crate::proofs::Prefix::after_prefix))]
 pub fn after_word<'a>(text: &'a [u8], word: &[u8]) -> Option<&'a [u8]>
     ensures value { left result ≡ after word.now text.now }
     ensures shorter { IfSome result (λ p. length p.now ≤ length text.now) }
 {
-    let mut rest = text;
-    let mut wanted = word;
-    while let [w, more @ ..] = wanted {
-        let [b, tail @ ..] = rest else {
-            return None;
-        };
-        if *b != *w {
-            return None;
-        }
-        rest = tail;
-        wanted = more;
-    }
-    Some(rest)
+    text.strip_prefix(word)
 }
 
 /// What follows the first line of a sheet. One of more than 4,096 bytes is too long, whatever they are; another
@@ -47,10 +35,10 @@ pub fn open_sheet(sheet: &[u8]) -> Option<&[u8]>
 }
 
 /// An octal digit, and what follows it.
+#[tactic(auto, unfolding(crate::specs::Read::digit))]
 fn read_digit(text: &[u8]) -> Option<(u16, &[u8])>
     ensures value { taken result ≡ digit text.now }
     ensures bound { IfSome result (λ p. p.0 < 8) }
-    ensures shorter { IfSome result (λ p. length p.1.now < length text.now) }
 {
     let [b @ b'0'..=b'7', rest @ ..] = text else {
         return None;
@@ -59,9 +47,9 @@ fn read_digit(text: &[u8]) -> Option<(u16, &[u8])>
 }
 
 /// An octal number of one to six digits, at most 0177777, and what follows it. Leading zeros count as digits.
+#[tactic(auto, unfolding(crate::specs::Read::number))]
 fn read_number(text: &[u8]) -> Option<(u16, &[u8])>
-    ensures value { taken result ≡ number text.now }
-    ensures shorter { IfSome result (λ p. length p.1.now < length text.now) }
+    ensures { taken result ≡ number text.now }
 {
     let (mut value, mut rest) = read_digit(text)?;
     for _ in 0..5u8 {
@@ -79,8 +67,7 @@ fn read_number(text: &[u8]) -> Option<(u16, &[u8])>
 
 /// A number and the text that ends it.
 fn read_field<'a>(text: &'a [u8], end: &[u8]) -> Option<(u16, &'a [u8])>
-    ensures value { taken result ≡ field end.now text.now }
-    ensures shorter { IfSome result (λ p. length p.1.now < length text.now) }
+    ensures { taken result ≡ field end.now text.now }
 {
     let (n, rest) = read_number(text)?;
     Some((n, after_word(rest, end)?))
@@ -88,8 +75,7 @@ fn read_field<'a>(text: &'a [u8], end: &[u8]) -> Option<(u16, &'a [u8])>
 
 /// The four numbers of a row, with one space between and a newline after.
 fn read_fields(text: &[u8]) -> Option<(Fields, &[u8])>
-    ensures value { taken result ≡ fields text.now }
-    ensures shorter { IfSome result (λ p. length p.1.now < length text.now) }
+    ensures { taken result ≡ fields text.now }
 {
     let (act, rest) = read_field(text, b" ")?;
     let (user, rest) = read_field(rest, b" ")?;
@@ -106,45 +92,15 @@ fn read_fields(text: &[u8]) -> Option<(Fields, &[u8])>
     ))
 }
 
-/// User 0 is A and 1 is B. A user over 1 is wrong.
-fn who_of(user: u16) -> Option<Who>
-    ensures { result ≡ who user }
-{
-    match user {
-        0 => Some(Who::A),
-        1 => Some(Who::B),
-        _ => None,
-    }
-}
-
-/// What the four numbers ask for. `do` 0 maps `word`, 1 puts `word` at `at`, 2 starts `user` at `at`, 3 runs `user`
-/// with budget `word`. A field that `do` does not name must be 0, and a `do` over 3 is wrong.
-fn meaning(f: Fields) -> Option<Row>
-    ensures { result ≡ meant f }
-{
-    match (f.act, f.user, f.at, f.word) {
-        (0, 0, 0, word) => Some(Row::Map(word)),
-        (1, 0, at, word) => Some(Row::Put { at, word }),
-        (2, user, at, 0) => Some(Row::Start {
-            user: who_of(user)?,
-            at,
-        }),
-        (3, user, 0, budget) => Some(Row::Run {
-            user: who_of(user)?,
-            budget,
-        }),
-        _ => None,
-    }
-}
-
 /// A row of a sheet, and what follows it: four octal numbers of one to six digits, each at most 0177777, with one
 /// space between and a newline after, that ask for something. An empty line is wrong, and so is a row without its
 /// newline. The law: just the texts so written are read as four numbers, and as the numbers that they write.
+#[tactic(auto, using(crate::proofs::Spelt::reads_what_is_written, crate::proofs::Spelt::fields_shorter), unfolding(crate::specs::Read::row))]
 pub fn read_row(text: &[u8]) -> Option<(Row, &[u8])>
     ensures value { taken result ≡ row text.now }
     ensures shorter { IfSome result (λ p. length p.1.now < length text.now) }
     ensures law { ReadsWhatIsWritten }
 {
     let (f, rest) = read_fields(text)?;
-    Some((meaning(f)?, rest))
+    Some((f.meaning()?, rest))
 }

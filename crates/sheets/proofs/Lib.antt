@@ -1,3 +1,2 @@
 mod KindsKept
-mod Numbers
 mod Rows

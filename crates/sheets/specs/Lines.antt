@@ -1,36 +1,46 @@
 -- The line that a row gives in the report.
-use Rattle.std.specs.Prelude.{ℕ, false, cond, List, [], ◌∷◌, replicate, slice_index}
+use Rattle.std.specs.Prelude.{ℕ, false, cond, List, [], ◌∷◌, replicate, slice_index, Some, None, Ok, Err, Result}
+use Rattle.model.specs.declared.denial.Denial.{Denial}
 use Rattle.model.specs.declared.user.Registers.{Registers}
-use Rattle.model.specs.Numbers.{number_of, values_of}
+use Rattle.model.specs.Numbers.{number_of, latest_values}
 use Rattle.model.specs.Machine.{Answer, denied, refused, granted, got, permit, ran, shown}
 use Rattle.writing.specs.Write.{line}
-use Rattle.sheets.specs.declared.line.Line.{Line}
+use Rattle.sheets.specs.declared.line.Granted.{Granted}
 
 -- a start is made with registers 0 but for the PC
 abbrev pub starting_at : ℕ → Registers
 starting_at at = record { ac = replicate 4 0; carry = false; pc = at }
 
 -- zeros after the answer
-abbrev pub quiet : ℕ → Line
-quiet answer = record { answer = answer; stop = 0; steps = 0; registers = starting_at 0 }
+abbrev pub quiet : Granted
+quiet = record { stop = None; steps = 0; registers = starting_at 0 }
+
+-- what comes of a row: a denial, or what a granted row shows
+abbrev pub Outcome : Type 0
+Outcome = Result Granted Denial
 
 -- a call's answer, r being the registers of its user after it: denials, map words and puts show zeros, a start the
 -- registers, and a run also its stop and its steps
-abbrev pub told : Answer → Registers → Line
-told (denied d) r = quiet (number_of d)
-told (refused d w k) r = quiet (number_of d)
-told granted r = quiet 0
-told (got w) r = quiet 0
-told (permit w k) r = record { answer = 0; stop = 0; steps = 0; registers = r }
-told (ran n s w k) r = record { answer = 0; stop = (values_of s).reason; steps = n; registers = r }
-told (shown q k s) r = quiet 0
+abbrev pub told : Answer → Registers → Outcome
+told (denied d) r = Err d
+told (refused d w k) r = Err d
+told granted r = Ok quiet
+told (got w) r = Ok quiet
+told (permit w k) r = Ok (record { stop = None; steps = 0; registers = r })
+told (ran n s w k) r = Ok (record { stop = Some s; steps = n; registers = r })
+told (shown q k s) r = Ok quiet
 
--- row answer stop steps pc ac0 ac1 ac2 ac3 carry
-abbrev pub numbers : Line → List ℕ
-numbers l =
-    l.answer ∷ l.stop ∷ l.steps ∷ l.registers.pc
+-- answer stop steps pc ac0 ac1 ac2 ac3 carry
+abbrev pub answered : ℕ → Granted → List ℕ
+answered answer l =
+    answer ∷ (latest_values l.stop).reason ∷ l.steps ∷ l.registers.pc
     ∷ slice_index l.registers.ac 0 ∷ slice_index l.registers.ac 1 ∷ slice_index l.registers.ac 2 ∷ slice_index l.registers.ac 3
     ∷ cond l.registers.carry 1 0 ∷ []
 
-abbrev pub line_bytes : ℕ → Line → List ℕ
-line_bytes number l = line number (numbers l)
+abbrev pub numbers : Outcome → List ℕ
+numbers (Ok l) = answered 0 l
+numbers (Err d) = answered (number_of d) quiet
+
+-- row answer stop steps pc ac0 ac1 ac2 ac3 carry
+abbrev pub line_bytes : ℕ → Outcome → List ℕ
+line_bytes number o = line number (numbers o)

@@ -1,62 +1,73 @@
-ghost use Rattle.std.specs.Prelude.{◌≡◌, ◌++◌, OnOk};
-ghost use Rattle.model.specs.Numbers.{number_of};
-ghost use Rattle.sheets.specs.Lines.{quiet as quiet_line, line_bytes};
+ghost use Rattle.std.specs.Prelude.{◌≡◌, ℕ, Some};
+ghost use Rattle.sheets.specs.Lines.{quiet as quiet_row, numbers as line_numbers, line_bytes};
 
-use model::{Denial, Registers};
-use std::alloc::AllocError;
-use writing::put_line;
+use model::{Denial, Registers, Stop};
+use std::fmt;
+use writing::OctalLine;
 
-/// What a row shows after its number.
+/// What a granted row shows after its answer 0: how its run ended, the steps of the run, and its user's registers.
 #[derive(Clone, Copy)]
-pub(crate) struct Line {
-    pub answer: u16,
-    pub stop: u16,
+pub(crate) struct Granted {
+    pub stop: Option<Stop>,
     pub steps: u16,
     pub registers: Registers,
 }
 
-/// A line of zeros after the answer.
-pub(crate) fn quiet(answer: u16) -> Line
-    ensures { result ≡ quiet_line answer }
+/// A row that shows zeros.
+pub(crate) fn quiet() -> Granted
+    ensures { result ≡ quiet_row }
 {
-    Line {
-        answer,
-        stop: 0,
+    Granted {
+        stop: None,
         steps: 0,
-        registers: Registers {
-            ac: [0; 4],
-            carry: false,
-            pc: 0,
-        },
+        registers: Registers::at(0),
     }
 }
 
-/// The line of a denied row: the denial's number and zeros.
-pub(crate) fn denied(reason: Denial) -> Line
-    ensures { result ≡ quiet_line (number_of reason) }
-{
-    quiet(u16::from(reason.number()))
+/// A line of the report: the number of a row, and what came of it.
+#[derive(Clone, Copy)]
+pub(crate) struct Line {
+    pub number: u16,
+    pub outcome: Result<Granted, Denial>,
 }
 
-/// Appends a line to the report.
-pub(crate) fn append(out: &mut Vec<u8>, number: u16, line: Line) -> Result<(), AllocError>
-    ensures { OnOk result (out.new.items ≡ out.old.items ++ line_bytes number line) }
-{
-    let Registers { ac, carry, pc } = line.registers;
-    let [ac0, ac1, ac2, ac3] = ac;
-    put_line(
-        out,
-        number,
-        &[
-            line.answer,
-            line.stop,
-            line.steps,
+impl Line {
+    // The numbers after the first. A denied row shows the number of its denial, and zeros.
+    fn numbers(self) -> [u16; 9]
+        ensures { result ≡ line_numbers self.outcome }
+    {
+        let (answer, granted) = match self.outcome {
+            Ok(granted) => (0, granted),
+            Err(reason) => (reason.number(), quiet()),
+        };
+        let stop = granted.stop.map_or(0, |stop| stop.values().reason);
+        let Registers {
+            ac: [ac0, ac1, ac2, ac3],
+            carry,
+            pc,
+        } = granted.registers;
+        [
+            u16::from(answer),
+            u16::from(stop),
+            granted.steps,
             pc,
             ac0,
             ac1,
             ac2,
             ac3,
             u16::from(carry),
-        ],
-    )
+        ]
+    }
+}
+
+impl fmt::Display for Line {
+    ghost output = { λ l. Some (line_bytes l.number l.outcome) };
+
+    fn fmt<W: fmt::Write>(&self, f: &mut fmt::Formatter<W>) -> fmt::Result {
+        let octal = OctalLine {
+            first: self.number,
+            others: &self.numbers(),
+        };
+        write!(f, "{octal}")
+    }
 }

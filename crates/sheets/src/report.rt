@@ -1,28 +1,30 @@
 //! The report of a sheet.
 
-ghost use Rattle.std.specs.Prelude.{◌≡◌, ℕ, ◌≤◌, ◌++◌, length, IfOk, OnOk};
+ghost use Rattle.std.specs.Prelude.{◌≡◌, ℕ, ◌≤◌, ◌++◌, length, IfOk, OnOk, string_bytes};
 ghost use Rattle.model.specs.Machine.{fresh};
 ghost use Rattle.machine.specs.Machine.{modelled};
-ghost use Rattle.sheets.specs.Desks.{Fitting, core_cells};
-ghost use Rattle.sheets.specs.Report.{blank, rows, report as reported};
+ghost use Rattle.sheets.specs.Desks.{core_cells};
+ghost use Rattle.reading.specs.Rows.{rows};
+ghost use Rattle.sheets.specs.Report.{blank, lines, report as reported};
 
 use crate::desk::Desk;
-use crate::line::{append, denied};
+use crate::line::Line;
 use machine::{Machine, Permit};
 use memory::{Memory, PlainCore};
 use model::Denial;
-use reading::{open_sheet, read_row};
+use reading::{Rows, open_sheet};
 use std::alloc::{AllocError, Global};
+use std::fmt::Write;
 
 /// The first line of a report, with its newline.
-const HEADING: &[u8] = b"row answer stop steps pc ac0 ac1 ac2 ac3 carry\n";
+const HEADING: &str = "row answer stop steps pc ac0 ac1 ac2 ac3 carry\n";
 
 /// The words of 16 blocks of 1,024.
 const CORE: usize = 16 * 1024;
 
 // A new machine over plain core of zeros, and its permits. Want of memory is the one way to fail: the core is whole.
 fn new_desk(heap: Global) -> Result<Desk<PlainCore>, AllocError>
-    ensures { IfOk result (λ d. (modelled core_cells d.machine ≡ fresh blank) × Fitting d) }
+    ensures { IfOk result (λ d. modelled core_cells d.machine ≡ fresh blank) }
 {
     let Ok(core) = PlainCore::new(vec![in heap; 0u16; CORE]?) else {
         unreachable()
@@ -35,41 +37,44 @@ fn new_desk(heap: Global) -> Result<Desk<PlainCore>, AllocError>
     })
 }
 
-// The lines of the rows. A wrong row is the last.
+// The lines of the rows.
 fn put_rows<M: Memory + Drop>(
-    out: &mut Vec<u8>,
-    start: Desk<M>,
+    out: &mut String,
+    mut desk: Desk<M>,
     text: &[u8],
 ) -> Result<(), AllocError>
-    requires fits { Fitting start }
-    requires bound { length text.now ≤ 4096 }
-    ensures { OnOk result (out.new.items ≡ out.old.items ++ rows (length text.now) (modelled M.Memory.cells start.machine) 1 text.now) }
+    requires { length text.now ≤ 4096 }
+    ensures { OnOk result (string_bytes out.new ≡ string_bytes out.old ++ lines (modelled M.Memory.cells desk.machine) 1 (rows text.now)) }
 {
-    let mut desk = start;
-    let mut number = 1;
-    let mut rest = text;
-    while !rest.is_empty() {
-        let Some((row, tail)) = read_row(rest) else {
-            return append(out, number, denied(Denial::Sheet));
+    for (number, row) in (1u16..).zip(Rows { text }) {
+        let outcome = match row {
+            Ok(row) => {
+                let (outcome, next) = desk.act(row);
+                desk = next;
+                outcome
+            }
+            Err(reason) => Err(reason),
         };
-        let (line, next) = desk.act(row);
-        desk = next;
-        append(out, number, line)?;
-        number += 1;
-        rest = tail;
+        write!(out, "{}", Line { number, outcome })?;
     }
     Ok(())
 }
 
 /// The report of a sheet: a heading, and a line for each row. A sheet of a wrong first line, or too long a one, has a
 /// wrong row 0, and none is carried out.
-pub fn carry_out(heap: Global, sheet: &[u8]) -> Result<Vec<u8>, AllocError>
-    ensures { IfOk result (λ v. v.items ≡ reported sheet.now) }
+pub fn carry_out(heap: Global, sheet: &[u8]) -> Result<String, AllocError>
+    ensures { IfOk result (λ t. string_bytes t ≡ reported sheet.now) }
 {
-    let mut out = Vec::from_slice(heap, HEADING)?;
+    let mut out = String::from_str(heap, HEADING)?;
     match open_sheet(sheet) {
         Some(text) => put_rows(&mut out, new_desk(heap)?, text)?,
-        None => append(&mut out, 0, denied(Denial::Sheet))?,
+        None => {
+            let wrong = Line {
+                number: 0,
+                outcome: Err(Denial::Sheet),
+            };
+            write!(out, "{wrong}")?
+        }
     }
     Ok(out)
 }

@@ -1,6 +1,7 @@
 -- How numbers and lines are written, as bytes.
 use Rattle.std.specs.Prelude.{ℕ, ◌+◌, cond, List, [], ◌∷◌, ◌++◌, map, ◌==◌}
 use Rattle.std.specs.Int.Digits.{digits_of}
+use Rattle.std.specs.List.{flat_map}
 
 -- the octal digits of a number as text, none for 0
 unfoldable pub figures : ℕ → List ℕ
@@ -11,9 +12,8 @@ unfoldable pub octal : ℕ → List ℕ
 octal n = cond (n == 0) (48 ∷ []) (figures n)
 
 -- a space before each
-unfoldable pub spaced : List ℕ → List ℕ
-spaced [] = []
-spaced (n ∷ ns) = 32 ∷ (octal n ++ spaced ns)
+abbrev pub spaced : List ℕ → List ℕ
+spaced = flat_map (λ n. 32 ∷ octal n)
 
 -- a first number and others, with one space between and a newline after
 unfoldable pub line : ℕ → List ℕ → List ℕ

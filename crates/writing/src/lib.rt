@@ -1,7 +1,7 @@
-//! Numbers and lines in octal, written as bytes.
+//! Numbers and lines in octal, written as text.
 
 #![tactic(auto)]
 
 pub mod lines;
 
-pub use lines::put_line;
+pub use lines::OctalLine;

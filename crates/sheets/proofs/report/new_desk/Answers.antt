@@ -10,5 +10,4 @@ returns c =
     let words = vec_items c.in_ok-vec.field-0 in
     let k : core_cells c.in-Ok.core ≡ sound words = search rules in
     let z = zeros_blank words (c.in_ok-vec.ensures.items_if_clones_equal (λ y e. e)) in
-    let s = c.new-machine.ensures.state ∙ ap fresh (k ∙ z) in
-    (s, search rules)
+    c.new-machine.ensures.state ∙ ap fresh (k ∙ z)

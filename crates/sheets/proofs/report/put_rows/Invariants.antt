@@ -1,17 +1,12 @@
-use Rattle.std.proofs.Common.{◌≡◌, ◌+◌, ◌-◌, ◌≤◌, ◌++◌, length, vec_items}
+use Rattle.std.proofs.Common.{◌≡◌, ◌+◌, ◌≤◌, ◌++◌, length, string_bytes}
 use Rattle.machine.specs.Machine.{modelled}
-use Rattle.sheets.specs.Desks.{Fitting}
-use Rattle.sheets.specs.Report.{rows}
+use Rattle.reading.specs.Rows.{rows}
+use Rattle.sheets.specs.Report.{lines}
 use Rattle.sheets.proofs.report.put_rows.Given as goal
 
 -- what is out and what remains make the whole
-abbrev pub invariant-loop-rest : goal.invariant-loop-rest
-invariant-loop-rest g l =
-    (vec_items l.initial.out ++ rows (length l.initial.rest) (modelled g.M.Memory.cells l.initial.desk.machine) 1 l.initial.rest
-    ≡ vec_items l.out ++ rows (length l.initial.rest + 1 - l.number) (modelled g.M.Memory.cells l.desk.machine) l.number l.rest)
-    × (l.number + length l.rest ≤ length l.initial.rest + 1)
-    × (1 ≤ l.number)
-    × Fitting l.desk
-
-abbrev pub decreases-loop-rest : goal.decreases-loop-rest
-decreases-loop-rest g l = length l.rest
+abbrev pub invariant-loop-number : goal.invariant-loop-number
+invariant-loop-number g l =
+    (string_bytes l.fn.out ++ lines (modelled g.M.Memory.cells l.fn.desk.machine) 1 (rows l.fn.text)
+    ≡ string_bytes l.out ++ lines (modelled g.M.Memory.cells l.desk.machine) l.number-iterator.a.start (rows l.number-iterator.b.text.now))
+    × (l.number-iterator.a.start + length (rows l.number-iterator.b.text.now) ≤ 4097)

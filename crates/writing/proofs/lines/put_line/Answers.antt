@@ -1,7 +1,0 @@
-use Rattle.std.proofs.Common.{append_assoc, rules}
-use Rattle.writing.specs.Write.{line}
-use Rattle.writing.proofs.lines.put_line.Goals as goal
-
-pub returns : goal.returns
-unfolding line
-returns c = search (rules, append_assoc)
