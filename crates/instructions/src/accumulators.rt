@@ -112,7 +112,8 @@ fn second_word<M: Memory>(m: &mut Mapped<'_, M>, r: &Registers) -> Result<u16, F
     m.fetch(low(r.pc.wrapping_add(1), 15))
 }
 
-// The destination becomes what `f` makes of that word and of it.
+// The destination becomes what `f` makes of that word and of it. By cases, since a ghost value that stands for `f` cannot
+// be picked at a closure in generic code.
 pub(crate) fn immediate<M: Memory, F: FnOnce(u16, u16) -> u16>(
     m: &mut Mapped<'_, M>,
     r: &mut Registers,

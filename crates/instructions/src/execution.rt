@@ -133,6 +133,7 @@ fn execute<M: Memory>(
         Operation::Iori => immediate(m, r, word, |i, d| i | d)?,
         Operation::Xori => immediate(m, r, word, |i, d| i ^ d)?,
         Operation::Andi => immediate(m, r, word, |i, d| i & d)?,
+        // A closure, since `u16::wrapping_add` by name left a goal open.
         Operation::Addi => immediate(m, r, word, |i, d| i.wrapping_add(d))?,
         Operation::Lmp => pass(r),
         Operation::Syc => syc(r),
