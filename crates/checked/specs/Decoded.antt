@@ -1,13 +1,14 @@
 -- The cell that a checked number stands for.
-use Rattle.std.specs.Prelude.{◌≡◌, ℕ, ◌^◌, ◌<◌, ◌≤◌, cond, List, length, ◌==◌, nat_lt, slice_index}
+use Rattle.std.specs.Prelude.{◌≡◌, ℕ, ◌^◌, ◌<◌, ◌≤◌, if◌then◌else◌, List, length, ◌==◌, nat_lt, slice_index}
 use Rattle.memory.specs.Cells.{Cell, word, spoiled, Row, row}
 use Rattle.hamming.specs.Hamming.{syndrome_of, word_in, lower, flipped}
 
 -- by the syndrome: 0 is sound, 1 to 21 names the position that is read flipped, from 22 on the cell is spoiled
 unfoldable pub decoded : ℕ → Cell
 decoded n =
-    cond (syndrome_of n == 0) (word (word_in (lower n)))
-    (cond (nat_lt (syndrome_of n) 22) (word (word_in (flipped (lower n) (syndrome_of n)))) spoiled)
+    if syndrome_of n == 0 then word (word_in (lower n))
+    else if nat_lt (syndrome_of n) 22 then word (word_in (flipped (lower n) (syndrome_of n)))
+    else spoiled
 
 abbrev pub checked : List ℕ → Row
 checked ns = row (length ns) (λ k. decoded (slice_index ns k))

@@ -1,6 +1,6 @@
 -- A checked number: 21 positions, of which position p has the weight 2 ^ (p - 1).
 -- The positions 1, 2, 4, 8 and 16 are checks, and the others hold a word.
-use Rattle.std.specs.Prelude.{◌≡◌, ℕ, zero, suc, ◌+◌, ◌-◌, ◌*◌, ◌/◌, ◌%◌, ◌^◌, ◌<◌, ◌≤◌, cond, List, [], ◌∷◌, ◌==◌, bit_xor}
+use Rattle.std.specs.Prelude.{◌≡◌, ℕ, zero, suc, ◌+◌, ◌-◌, ◌*◌, ◌/◌, ◌%◌, ◌^◌, ◌<◌, ◌≤◌, if◌then◌else◌, List, [], ◌∷◌, ◌==◌, bit_xor}
 
 -- 1 where the position p of n holds a one, else 0
 unfoldable pub held : ℕ → ℕ → ℕ
@@ -37,7 +37,7 @@ flipped n p = bit_xor n (2 ^ (p - 1))
 
 -- the number with the position that its syndrome names turned over, where 0 names none, and no higher bits
 unfoldable pub mended : ℕ → ℕ
-mended n = cond (syndrome_of n == 0) (lower n) (flipped (lower n) (syndrome_of n))
+mended n = if syndrome_of n == 0 then lower n else flipped (lower n) (syndrome_of n)
 
 -- a number that is not spoiled is mended to one that is sound and has no higher bits
 abbrev pub MendedSound : Type 0

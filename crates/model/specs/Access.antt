@@ -1,5 +1,5 @@
 -- A step of a user program, by what it asks of the user's mapped memory; and how the map carries that out.
-use Rattle.std.specs.Prelude.{ℕ, ◌+◌, ◌*◌, ◌/◌, ◌%◌, Bool, cond, ◌&&◌, Some, None, Ok, Err, Option, Result, slice_index_or}
+use Rattle.std.specs.Prelude.{ℕ, ◌+◌, ◌*◌, ◌/◌, ◌%◌, Bool, if◌then◌else◌, ◌&&◌, Some, None, Ok, Err, Option, Result, slice_index_or}
 use Rattle.memory.specs.Cells.{Row, word}
 use Rattle.memory.specs.Answers as memory
 use Rattle.model.specs.declared.fault.Fault.{Fault}
@@ -34,11 +34,11 @@ read_at (Some p) cs a = faulted (located (memory.reading cs (placed p a)) (place
 -- `on` is the switch of write protection
 abbrev pub write_at : Option Page → Bool → Row → ℕ → Result (Unit {0}) MapFault
 write_at None on cs a = Err (Validity a)
-write_at (Some p) on cs a = cond (on && p.protected) (Err (Protected a)) (faulted (located (memory.writing cs (placed p a)) (placed p a) a))
+write_at (Some p) on cs a = if on && p.protected then Err (Protected a) else faulted (located (memory.writing cs (placed p a)) (placed p a) a)
 
 abbrev pub written_at : Option Page → Bool → Row → ℕ → ℕ → Row
 written_at None on cs a w = cs
-written_at (Some p) on cs a w = cond (on && p.protected) cs (memory.written cs (placed p a) (word w))
+written_at (Some p) on cs a w = if on && p.protected then cs else memory.written cs (placed p a) (word w)
 
 abbrev pub loaded : UserMap → Row → ℕ → Result ℕ MapFault
 loaded m cs a = read_at (page_at m a) cs a

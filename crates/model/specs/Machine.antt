@@ -1,5 +1,5 @@
 -- The machine of the rules: its state, its calls, and what each call answers and does.
-use Rattle.std.specs.Prelude.{ℕ, ◌/◌, ◌%◌, Bool, true, false, cond, not, ◌&&◌, ◌||◌, List, [], ◌∷◌, replicate, Some, None, Ok, Err, Option, Result, ◌==◌, nat_lt, slice_set}
+use Rattle.std.specs.Prelude.{ℕ, ◌/◌, ◌%◌, Bool, true, false, if◌then◌else◌, not, ◌&&◌, ◌||◌, List, [], ◌∷◌, replicate, Some, None, Ok, Err, Option, Result, ◌==◌, nat_lt, slice_set}
 use Rattle.memory.specs.Cells.{word, Row}
 use Rattle.memory.specs.Answers as memory
 use Rattle.memory.specs.declared.fault.MemoryFault.{MemoryFault}
@@ -67,12 +67,12 @@ rested u x q = record { registers = q; map = u.map; kind = kind_after x.stop; la
 
 abbrev pub mapped : Row → User → ℕ → Bool → ℕ → Acted
 mapped cs u l p b =
-    cond (p && b == 127) (granted, with_entry u l None, cs)
-    (cond (nat_lt b (cs.size / 1024)) (granted, with_entry u l (Some (record { block = b; protected = p })), cs)
-    (denied denial.Block, u, cs))
+    if p && b == 127 then (granted, with_entry u l None, cs)
+    else if nat_lt b (cs.size / 1024) then (granted, with_entry u l (Some (record { block = b; protected = p })), cs)
+    else (denied denial.Block, u, cs)
 
 abbrev pub started : Kind → Who → Row → User → Registers → Acted
-started Held who cs u r = cond (nat_lt r.pc 32768) (permit who Ready, readied u r, cs) (refused denial.Pc who Held, u, cs)
+started Held who cs u r = if nat_lt r.pc 32768 then (permit who Ready, readied u r, cs) else (refused denial.Pc who Held, u, cs)
 started Ready who cs u r = (refused denial.Permit who Held, u, cs)
 
 abbrev pub run_by : Kind → Who → Row → User → ℕ → Acted
@@ -120,14 +120,14 @@ block_word w = block (w / 1024 % 32) (bit w 128) (w % 128)
 
 -- bits 9, 11 and 12 are the switches; bits 10, 13, 14 and 15 have to be 0
 abbrev pub status_word : ℕ → Deed
-status_word w = cond (bit w 32 || not (w % 8 == 0)) unlisted (status (record { lef = bit w 64; write = bit w 16; indirect = bit w 8 }))
+status_word w = if bit w 32 || not (w % 8 == 0) then unlisted else status (record { lef = bit w 64; write = bit w 16; indirect = bit w 8 })
 
 -- a map word: bits 6-7 equal to 2 or 3 make a block word of A or B; bits 6-7 and bit 1 all 0 a status word of the user in bit 2
 unfoldable pub sense_of_word : ℕ → Sense
 sense_of_word w =
-    cond (bit w 512) (of (user_by_bit (bit w 256)) (block_word w))
-    (cond (bit w 256 || bit w 16384) wordless
-    (of (user_by_bit (bit w 8192)) (status_word w)))
+    if bit w 512 then of (user_by_bit (bit w 256)) (block_word w)
+    else if bit w 256 || bit w 16384 then wordless
+    else of (user_by_bit (bit w 8192)) (status_word w)
 
 abbrev pub sense : Call → Sense
 sense (map w) = sense_of_word w

@@ -1,9 +1,9 @@
 -- Two rows of cells joined, the even cells from one and the odd ones from the other.
-use Rattle.std.specs.Prelude.{ℕ, ◌+◌, ◌*◌, ◌/◌, ◌%◌, min, Bool, cond, ◌&&◌, ◌==◌, nat_le}
+use Rattle.std.specs.Prelude.{ℕ, ◌+◌, ◌*◌, ◌/◌, ◌%◌, min, Bool, if◌then◌else◌, ◌&&◌, ◌==◌, nat_le}
 use Rattle.memory.specs.Cells.{Cell, Row, row}
 
 abbrev pub alternating : Row → Row → ℕ → Cell
-alternating a b n = cond (n % 2 == 0) (a.at (n / 2)) (b.at (n / 2))
+alternating a b n = if n % 2 == 0 then a.at (n / 2) else b.at (n / 2)
 
 -- two rows of equal size
 abbrev pub interleaved : Row → Row → Row

@@ -1,5 +1,5 @@
 -- The line that a row gives in the report.
-use Rattle.std.specs.Prelude.{ℕ, false, cond, List, [], ◌∷◌, replicate, slice_index, Some, None, Ok, Err, Result}
+use Rattle.std.specs.Prelude.{ℕ, false, if◌then◌else◌, List, [], ◌∷◌, replicate, slice_index, Some, None, Ok, Err, Result}
 use Rattle.model.specs.declared.denial.Denial.{Denial}
 use Rattle.model.specs.declared.user.Registers.{Registers}
 use Rattle.model.specs.Numbers.{number_of, latest_values}
@@ -35,7 +35,7 @@ abbrev pub answered : ℕ → Granted → List ℕ
 answered answer l =
     answer ∷ (latest_values l.stop).reason ∷ l.steps ∷ l.registers.pc
     ∷ slice_index l.registers.ac 0 ∷ slice_index l.registers.ac 1 ∷ slice_index l.registers.ac 2 ∷ slice_index l.registers.ac 3
-    ∷ cond l.registers.carry 1 0 ∷ []
+    ∷ (if l.registers.carry then 1 else 0) ∷ []
 
 abbrev pub numbers : Outcome → List ℕ
 numbers (Ok l) = answered 0 l

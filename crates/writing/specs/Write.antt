@@ -1,5 +1,5 @@
 -- How numbers and lines are written, as bytes.
-use Rattle.std.specs.Prelude.{ℕ, ◌+◌, cond, List, [], ◌∷◌, ◌++◌, map, ◌==◌}
+use Rattle.std.specs.Prelude.{ℕ, ◌+◌, if◌then◌else◌, List, [], ◌∷◌, ◌++◌, map, ◌==◌}
 use Rattle.std.specs.Int.Digits.{digits_of}
 use Rattle.std.specs.List.{flat_map}
 
@@ -9,7 +9,7 @@ figures n = map (λ d. 48 + d) (digits_of 8 n)
 
 -- with no leading zero, and one digit for 0
 unfoldable pub octal : ℕ → List ℕ
-octal n = cond (n == 0) (48 ∷ []) (figures n)
+octal n = if n == 0 then 48 ∷ [] else figures n
 
 -- a space before each
 abbrev pub spaced : List ℕ → List ℕ
