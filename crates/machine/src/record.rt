@@ -39,14 +39,11 @@ pub(crate) fn begin(user: &mut User, registers: Registers) -> Result<(), Denial>
 {
     match user.kind {
         Kind::Ready => Err(Denial::Permit),
+        Kind::Held if registers.pc >= 32768 => Err(Denial::Pc),
         Kind::Held => {
-            if registers.pc < 32768 {
-                user.registers = registers;
-                user.kind = Kind::Ready;
-                Ok(())
-            } else {
-                Err(Denial::Pc)
-            }
+            user.registers = registers;
+            user.kind = Kind::Ready;
+            Ok(())
         }
     }
 }

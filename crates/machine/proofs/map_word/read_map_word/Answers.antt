@@ -4,9 +4,9 @@ use Rattle.model.specs.Machine.{sense_of_word}
 use Rattle.machine.proofs.Answered.{unlisted}
 use Rattle.machine.proofs.map_word.read_map_word.Goals as goal
 
-pub returns-then-bits-eq1 : goal.returns-then-bits-eq1
+pub returns-then-is_one : goal.returns-then-is_one
 unfolding sense_of_word
-returns-then-bits-eq1 c = grind (arith, nat_tests)
+returns-then-is_one c = grind (arith, nat_tests)
 
 pub returns-then-is_neither : goal.returns-then-is_neither
 unfolding sense_of_word
