@@ -1,20 +1,13 @@
 //! Map words. Bit 0 is the highest of the sixteen.
 
-ghost use Rattle.std.specs.Prelude.{◌≡◌, ℕ, ◌%◌, ◌-◌, ◌^◌, ◌<◌, not, ◌||◌, ◌==◌};
+ghost use Rattle.std.specs.Prelude.{◌≡◌, ℕ, ◌%◌, not, ◌||◌, ◌==◌};
 ghost use Rattle.model.specs.Machine.{sense_of_word, user_by_bit, bit as bit_of};
 ghost use Rattle.machine.specs.Calls.{Reads};
 
 use crate::setting::{Entry, Setting};
 use arithmetic::fields::{bits, low};
+use arithmetic::pointers::is_one;
 use model::{Denial, Switches, Who};
-
-// Whether the bit of that number is 1.
-fn is_one(w: u16, bit: u32) -> bool
-    requires { bit < 16 }
-    ensures { result ≡ bit_of w (2 ^ (15 - bit)) }
-{
-    bits(w, 15 - bit, 1) == 1
-}
 
 fn user_by(b: bool) -> Who
     ensures { result ≡ user_by_bit b }
@@ -26,35 +19,35 @@ fn user_by(b: bool) -> Who
 fn is_neither(w: u16) -> bool
     ensures { result ≡ (bit_of w 256 || bit_of w 16384) }
 {
-    is_one(w, 7) || is_one(w, 1)
+    is_one(7, w) || is_one(1, w)
 }
 
 // Bit 10, 13, 14 or 15 is 1.
 fn is_unlisted(w: u16) -> bool
     ensures { result ≡ (bit_of w 32 || not (w % 8 == 0)) }
 {
-    is_one(w, 10) || low(w, 3) != 0
+    is_one(10, w) || low(w, 3) != 0
 }
 
 /// Reads a map word. Bit 0 is ignored, and in a status word also bits 3-5 and 8.
 pub(crate) fn read_map_word(w: u16) -> Result<(Who, Setting), Denial>
     ensures { Reads result (sense_of_word w) }
 {
-    if is_one(w, 6) {
+    if is_one(6, w) {
         let entry = Entry {
             logical: usize::from(bits(w, 10, 5)),
-            protected: is_one(w, 8),
+            protected: is_one(8, w),
             block: low(w, 7) as u8,
         };
-        return Ok((user_by(is_one(w, 7)), Setting::Entry(entry)));
+        return Ok((user_by(is_one(7, w)), Setting::Entry(entry)));
     }
     if is_neither(w) || is_unlisted(w) {
         return Err(Denial::BadOption);
     }
     let switches = Switches {
-        lef: is_one(w, 9),
-        write: is_one(w, 11),
-        indirect: is_one(w, 12),
+        lef: is_one(9, w),
+        write: is_one(11, w),
+        indirect: is_one(12, w),
     };
-    Ok((user_by(is_one(w, 2)), Setting::Switches(switches)))
+    Ok((user_by(is_one(2, w)), Setting::Switches(switches)))
 }

@@ -1,10 +1,7 @@
 -- A past goes on by a call.
 use Rattle.std.proofs.Common.{◌≡◌, List, [], ◌∷◌, ◌++◌, sym, refl, ap, ◌∙◌, subst, ap₂, subst₂}
-use Rattle.memory.specs.Cells.{Row}
-use Rattle.model.specs.declared.user.User.{User}
-use Rattle.model.specs.declared.user.Who.TheVariants.{A, B}
-use Rattle.model.specs.Machine.{Answer, Call, Deed, Sense, of, State, act, sense, carried, call, replay, fresh}
-use Rattle.model.specs.Laws.{Did, Acts, Continues, Happens, IfDenied, RunBounded, Stepwise}
+use Rattle.model.specs.Machine.{Answer, Call, Sense, State, sense, carried, call, replay, fresh}
+use Rattle.model.specs.Laws.{Did, Continues, Happens, IfDenied, RunBounded, Stepwise}
 use Rattle.model.proofs.Laws.{denied_unchanged, run_bounded}
 use Rattle.model.proofs.Stepwise.{stepwise}
 
@@ -38,9 +35,3 @@ made s k x t d =
 
 pub did_sense : (s : State) (k : Call) (m : Sense) (x : Answer) (t : State) → m ≡ sense k → x ≡ (carried s m).0 → t ≡ (carried s m).1 → Did s k x t
 did_sense s k m x t e h g = record { answer = h ∙ ap (λ (n : Sense). (carried s n).0) e; after = g ∙ ap (λ (n : Sense). (carried s n).1) e }
-
-pub did_a : (s : State) (k : Call) (d : Deed) (x : Answer) (u : User) (cs : Row) → of A d ≡ sense k → Acts (act A s.cells s.a d) x u cs → Did s k x (record { cells = cs; a = u; b = s.b })
-did_a s k d x u cs e h = did_sense s k (of A d) x _ e h.answer (λ i. record { cells = h.cells i; a = h.user i; b = s.b })
-
-pub did_b : (s : State) (k : Call) (d : Deed) (x : Answer) (u : User) (cs : Row) → of B d ≡ sense k → Acts (act B s.cells s.b d) x u cs → Did s k x (record { cells = cs; a = s.a; b = u })
-did_b s k d x u cs e h = did_sense s k (of B d) x _ e h.answer (λ i. record { cells = h.cells i; a = s.a; b = h.user i })
