@@ -69,6 +69,7 @@ impl Wide {
     }
 }
 
+// `of`, here and below, and no `From<u16>`: a word is no operation, but has one of each of these four.
 impl Function {
     fn of(word: u16) -> Function
         ensures { result ≡ function_of (word / 256 % 8) }

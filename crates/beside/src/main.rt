@@ -25,9 +25,13 @@ fn load<M: Memory>(machine: &mut Machine<M>, program: &[(usize, u16)]) -> Result
     Ok(())
 }
 
-fn start_again<M: Memory>(machine: &mut Machine<M>, held: Held) -> Result<Ended, Denial> {
-    let again = machine.start(held, Registers::at(0o100))?;
-    Ok(machine.run(again, 5)?)
+fn start_and_run<M: Memory>(
+    machine: &mut Machine<M>,
+    held: Held,
+    budget: u16,
+) -> Result<Ended, Denial> {
+    let started = machine.start(held, Registers::at(0o100))?;
+    Ok(machine.run(started, budget)?)
 }
 
 // A run cut in two goes on with the permit that the first part gave back.
@@ -36,7 +40,7 @@ fn run_in_two<M: Memory>(machine: &mut Machine<M>, held: Held) -> Result<Ended, 
     let first = machine.run(ready, 6)?;
     match first.permit {
         Permit::Ready(again) => Ok(machine.run(again, 5)?),
-        Permit::Held(held) => start_again(machine, held),
+        Permit::Held(held) => start_and_run(machine, held, 5),
     }
 }
 
@@ -50,8 +54,7 @@ fn tilt<M: Memory>(machine: &mut Machine<M>, held: Held) -> Result<Ended, Denial
     machine.map(0o1401)?;
     machine.map(0o3600)?;
     load(machine, &MEDDLE)?;
-    let ready = machine.start(held, Registers::at(0o100))?;
-    Ok(machine.run(ready, 100)?)
+    start_and_run(machine, held, 100)
 }
 
 fn show(rt: &HostRuntime, name: &str, ended: Result<Ended, Denial>) -> anyhow::Result<()> {

@@ -14,7 +14,8 @@ ghost use Rattle.hamming.proofs.Linear.{word_lt};
 use hamming::{encode, mend, word};
 use memory::{Memory, MemoryFault, WrongSize, in_blocks};
 
-/// Checked core: a list of numbers, each with 21 positions and higher bits that are ignored.
+/// Checked core: a list of numbers, each with 21 positions and higher bits that are ignored. It is no instance of one core
+/// for any coding: what a read and a write leave of a number is promised here alone.
 #[derive(Drop)]
 pub struct CheckedCore {
     numbers: Vec<u32>,

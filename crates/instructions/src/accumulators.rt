@@ -2,20 +2,14 @@
 //! they make of their operands take it as a function.
 
 ghost use Rattle.std.specs.Prelude.{◌≡◌, ℕ, Bool, Ok, Err, IfOk, IfErr};
-ghost use Rattle.arithmetic.specs.declared.shifts.Double.{Double};
-ghost use Rattle.arithmetic.specs.declared.unit.Wide.{Wide};
 ghost use Rattle.addressing.specs.Mapped.{Performs};
 ghost use Rattle.model.specs.Step.{sourced, aimed, doubled};
 ghost use Rattle.model.specs.Step as step;
 
-use crate::registers::{
-    destination_in, destination_of, double_in, load, load_double, move_on, source_in, source_of,
-};
+use crate::registers::{Operand, destination_of, move_on, source_in, source_of};
 use addressing::mapped::Mapped;
 use arithmetic::counts::{add_leading_zeros, reset_leading_one};
 use arithmetic::fields::{bits, low};
-use arithmetic::shifts::Double;
-use arithmetic::unit::Wide;
 use memory::Memory;
 use model::{Fault, Outcome, Registers};
 
@@ -27,39 +21,16 @@ pub(crate) fn immediate_of(word: u16) -> u16
 }
 
 // The destination becomes what `f` makes of the source and of it.
-pub(crate) fn combine<F: FnOnce(u16, u16) -> u16>(r: &mut Registers, word: u16, f: F) -> Outcome
-    requires { F.pre f (sourced r.old word) (aimed r.old word) }
-    ensures { (x : ℕ) × F.post f (sourced r.old word) (aimed r.old word) x × ((result, r.new) ≡ step.loaded_with r.old word x) }
-{
-    let x = f(source_in(r, word), destination_in(r, word));
-    load(r, word, x)
-}
-
-// The same with the carry, which is read and set.
-pub(crate) fn combine_digits<F: FnOnce(bool, u16, u16) -> Wide>(
+pub(crate) fn combine<T: Operand, F: FnOnce(u16, T) -> T>(
     r: &mut Registers,
     word: u16,
     f: F,
 ) -> Outcome
-    requires { F.pre f r.old.carry (sourced r.old word) (aimed r.old word) }
-    ensures { (x : Wide) × F.post f r.old.carry (sourced r.old word) (aimed r.old word) x × ((result, r.new) ≡ step.with_wide r.old word x) }
+    requires { F.pre f (sourced r.old word) (T.aimed_at r.old word) }
+    ensures { (x : T) × F.post f (sourced r.old word) (T.aimed_at r.old word) x × ((result, r.new) ≡ T.loaded r.old word x) }
 {
-    let x = f(r.carry, source_in(r, word), destination_in(r, word));
-    r.carry = x.carry;
-    load(r, word, x.word)
-}
-
-// The same with the destination and the accumulator after it.
-pub(crate) fn combine_double<F: FnOnce(u16, Double) -> Double>(
-    r: &mut Registers,
-    word: u16,
-    f: F,
-) -> Outcome
-    requires { F.pre f (sourced r.old word) (doubled r.old word) }
-    ensures { (x : Double) × F.post f (sourced r.old word) (doubled r.old word) x × ((result, r.new) ≡ step.with_double r.old word x) }
-{
-    let x = f(source_in(r, word), double_in(r, word));
-    load_double(r, word, x)
+    let x = f(source_in(r, word), T::read(r, word));
+    x.load(r, word)
 }
 
 // The next word is skipped where `holds` does of the source and the destination.
@@ -71,7 +42,7 @@ pub(crate) fn compare<F: FnOnce(u16, u16) -> bool>(
     requires { F.pre holds (sourced r.old word) (aimed r.old word) }
     ensures { (b : Bool) × F.post holds (sourced r.old word) (aimed r.old word) b × ((result, r.new) ≡ step.skip_if b r.old) }
 {
-    let skips = holds(source_in(r, word), destination_in(r, word));
+    let skips = holds(source_in(r, word), u16::read(r, word));
     move_on(r, if skips { 2 } else { 1 });
     Outcome::Next
 }
@@ -80,8 +51,8 @@ pub(crate) fn xch(r: &mut Registers, word: u16) -> Outcome
     ensures { (result, r.new) ≡ step.xch r.old word }
 {
     let s = source_in(r, word);
-    r.ac[source_of(word)] = destination_in(r, word);
-    load(r, word, s)
+    r.ac[source_of(word)] = u16::read(r, word);
+    s.load(r, word)
 }
 
 // Of one accumulator no count is taken.
@@ -90,7 +61,7 @@ pub(crate) fn lrb(r: &mut Registers, word: u16) -> Outcome
 {
     let s = source_in(r, word);
     if source_of(word) != destination_of(word) {
-        r.ac[destination_of(word)] = add_leading_zeros(s, destination_in(r, word));
+        r.ac[destination_of(word)] = add_leading_zeros(s, u16::read(r, word));
     }
     r.ac[source_of(word)] = reset_leading_one(s);
     move_on(r, 1);
@@ -126,7 +97,7 @@ pub(crate) fn immediate<M: Memory, F: FnOnce(u16, u16) -> u16>(
     ensures err { IfErr result (λ e. Performs M.Memory.cells m.old m.new (Err e) (step.second r.old) × (r.new ≡ r.old)) }
 {
     let i = second_word(m, r)?;
-    r.ac[destination_of(word)] = f(i, destination_in(r, word));
+    r.ac[destination_of(word)] = f(i, u16::read(r, word));
     move_on(r, 2);
     Ok(Outcome::Next)
 }

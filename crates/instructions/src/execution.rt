@@ -5,18 +5,16 @@ ghost use Rattle.std.specs.Prelude.{◌≡◌, ◌+◌, ◌%◌};
 ghost use Rattle.instructions.specs.Settled.{Settles};
 ghost use Rattle.model.specs.Step as step;
 
-use crate::accumulators::{
-    combine, combine_digits, combine_double, compare, immediate, immediate_of, lrb, pass, xch,
-};
+use crate::accumulators::{combine, compare, immediate, immediate_of, lrb, pass, xch};
 use crate::decode::decode;
-use crate::registers::{destination_in, destination_of, load, move_on, source_in};
+use crate::registers::{Operand, destination_of, move_on, source_in};
 use addressing::mapped::Mapped;
 use arithmetic::counts::{add_leading_zeros, add_ones};
 use arithmetic::digits::{add_digit, subtract_digit};
 use arithmetic::fields::{bits, low};
-use arithmetic::shifts::{hex_left, hex_right, shift};
+use arithmetic::shifts::{Double, hex_left, hex_right, shift};
 use arithmetic::signed::{halve, is_at_least, is_greater};
-use arithmetic::unit::{operate, skips};
+use arithmetic::unit::{Wide, operate, skips};
 use memory::Memory;
 use model::{Fault, Operation, Outcome, Registers};
 
@@ -58,14 +56,14 @@ fn lda<M: Memory>(m: &mut Mapped<'_, M>, r: &mut Registers, word: u16) -> Result
 {
     let at = m.find(r, word)?;
     let n = m.fetch(at)?;
-    Ok(load(r, word, n))
+    Ok(n.load(r, word))
 }
 
 fn sta<M: Memory>(m: &mut Mapped<'_, M>, r: &mut Registers, word: u16) -> Result<Outcome, Fault>
     ensures { Settles M.Memory.cells m.old m.new r.old r.new result (step.sta m.old.map.now.switches r.old word) }
 {
     let at = m.find(r, word)?;
-    m.put(at, destination_in(r, word))?;
+    m.put(at, u16::read(r, word))?;
     move_on(r, 1);
     Ok(Outcome::Next)
 }
@@ -74,7 +72,7 @@ fn sta<M: Memory>(m: &mut Mapped<'_, M>, r: &mut Registers, word: u16) -> Result
 fn two(r: &mut Registers, word: u16) -> Outcome
     ensures { (result, r.new) ≡ step.two_accumulator r.old word }
 {
-    let x = operate(word, r.carry, source_in(r, word), destination_in(r, word));
+    let x = operate(word, r.carry, source_in(r, word), u16::read(r, word));
     if bits(word, 3, 1) == 0 {
         r.ac[destination_of(word)] = x.word;
         r.carry = x.carry;
@@ -110,26 +108,26 @@ fn execute<M: Memory>(
         Operation::InputOutput if m.map.switches.lef => return Err(Fault::Code),
         Operation::InputOutput => return Err(Fault::Device),
         Operation::TwoAccumulator => two(r, word),
-        Operation::Adi => combine(r, word, |_, d| d.wrapping_add(n + 1)),
-        Operation::Sbi => combine(r, word, |_, d| d.wrapping_sub(n + 1)),
-        Operation::Dad => combine_digits(r, word, add_digit),
-        Operation::Dsb => combine_digits(r, word, subtract_digit),
-        Operation::Ior => combine(r, word, |s, d| s | d),
-        Operation::Xor => combine(r, word, |s, d| s ^ d),
-        Operation::Anc => combine(r, word, |s, d| !s & d),
+        Operation::Adi => combine(r, word, |_, d: u16| d.wrapping_add(n + 1)),
+        Operation::Sbi => combine(r, word, |_, d: u16| d.wrapping_sub(n + 1)),
+        Operation::Dad => combine(r, word, |s, x: Wide| add_digit(x.carry, s, x.word)),
+        Operation::Dsb => combine(r, word, |s, x: Wide| subtract_digit(x.carry, s, x.word)),
+        Operation::Ior => combine(r, word, |s, d: u16| s | d),
+        Operation::Xor => combine(r, word, |s, d: u16| s ^ d),
+        Operation::Anc => combine(r, word, |s, d: u16| !s & d),
         Operation::Xch => xch(r, word),
         Operation::Sgt => compare(r, word, is_greater),
         Operation::Sge => compare(r, word, is_at_least),
-        Operation::Lsh => combine(r, word, shift),
-        Operation::Dlsh => combine_double(r, word, shift),
-        Operation::Hxl => combine(r, word, |_, d| hex_left(n, d)),
-        Operation::Hxr => combine(r, word, |_, d| hex_right(n, d)),
-        Operation::Dhxl => combine_double(r, word, |_, x| hex_left(n, x)),
-        Operation::Dhxr => combine_double(r, word, |_, x| hex_right(n, x)),
+        Operation::Lsh => combine(r, word, shift::<u16>),
+        Operation::Dlsh => combine(r, word, shift::<Double>),
+        Operation::Hxl => combine(r, word, |_, d: u16| hex_left(n, d)),
+        Operation::Hxr => combine(r, word, |_, d: u16| hex_right(n, d)),
+        Operation::Dhxl => combine(r, word, |_, x: Double| hex_left(n, x)),
+        Operation::Dhxr => combine(r, word, |_, x: Double| hex_right(n, x)),
         Operation::Lob => combine(r, word, add_leading_zeros),
         Operation::Lrb => lrb(r, word),
         Operation::Cob => combine(r, word, add_ones),
-        Operation::Hlv => combine(r, word, |_, d| halve(d)),
+        Operation::Hlv => combine(r, word, |_, d: u16| halve(d)),
         Operation::Iori => immediate(m, r, word, |i, d| i | d)?,
         Operation::Xori => immediate(m, r, word, |i, d| i ^ d)?,
         Operation::Andi => immediate(m, r, word, |i, d| i & d)?,

@@ -1,13 +1,18 @@
-//! The accumulators that a word names, and the PC.
+//! The accumulators that a word names, and the PC. Registers and a word go together here, and in no struct: it would borrow
+//! the registers, and each contract would have to say that it still borrows the same.
 
-ghost use Rattle.std.specs.Prelude.{◌≡◌, ◌<◌};
+ghost use Rattle.std.specs.Prelude.{◌≡◌, ℕ, ◌<◌};
 ghost use Rattle.model.specs.Address.{moved};
-ghost use Rattle.model.specs.Step.{source, destination, sourced, aimed, loaded_with, doubled, with_double};
+ghost use Rattle.model.specs.declared.steps.Outcome.{Outcome};
+ghost use Rattle.model.specs.declared.user.Registers.{Registers};
+ghost use Rattle.model.specs.Step.{source, destination, sourced, aimed, loaded_with, wide, with_wide, doubled, with_double};
 
 use arithmetic::fields::{bits, low};
 use arithmetic::shifts::Double;
+use arithmetic::unit::Wide;
 use model::{Outcome, Registers};
 
+// A function for each field, and none of a field's place: the names say what the bits are.
 pub(crate) fn source_of(word: u16) -> usize
     ensures value { result ≡ source word }
     ensures bound { result < 4 }
@@ -28,44 +33,81 @@ pub(crate) fn source_in(r: &Registers, word: u16) -> u16
     r.ac[source_of(word)]
 }
 
-pub(crate) fn destination_in(r: &Registers, word: u16) -> u16
-    ensures { result ≡ aimed r.now word }
-{
-    r.ac[destination_of(word)]
-}
-
 pub(crate) fn move_on(r: &mut Registers, by: u16)
     ensures { r.new ≡ moved r.old by }
 {
     r.pc = low(r.pc.wrapping_add(by), 15);
 }
 
-/// The destination becomes a word, and the program goes on.
-pub(crate) fn load(r: &mut Registers, word: u16, x: u16) -> Outcome
-    ensures { (result, r.new) ≡ loaded_with r.old word x }
-{
-    r.ac[destination_of(word)] = x;
-    move_on(r, 1);
-    Outcome::Next
+/// What an instruction finds at its destination and leaves there.
+pub(crate) trait Operand: Copy {
+    ghost aimed_at: { Registers → ℕ → Self };
+
+    ghost loaded: { Registers → ℕ → Self → Outcome × Registers };
+
+    fn read(r: &Registers, word: u16) -> Self
+        ensures { result ≡ aimed_at r.now word };
+
+    /// The destination becomes the value, and the program goes on.
+    fn load(self, r: &mut Registers, word: u16) -> Outcome
+        ensures { (result, r.new) ≡ loaded r.old word self };
 }
 
-/// The destination and the accumulator after it, AC0 after AC3, as one number of 32 bits.
-pub(crate) fn double_in(r: &Registers, word: u16) -> Double
-    ensures { result ≡ doubled r.now word }
-{
-    let n = destination_of(word);
-    Double {
-        high: r.ac[n],
-        low: r.ac[(n + 1) % 4],
+/// The word of the destination.
+impl Operand for u16 {
+    ghost aimed_at = { aimed };
+
+    ghost loaded = { loaded_with };
+
+    fn read(r: &Registers, word: u16) -> u16 {
+        r.ac[destination_of(word)]
+    }
+
+    fn load(self, r: &mut Registers, word: u16) -> Outcome {
+        r.ac[destination_of(word)] = self;
+        move_on(r, 1);
+        Outcome::Next
     }
 }
 
-pub(crate) fn load_double(r: &mut Registers, word: u16, x: Double) -> Outcome
-    ensures { (result, r.new) ≡ with_double r.old word x }
-{
-    let n = destination_of(word);
-    r.ac[n] = x.high;
-    r.ac[(n + 1) % 4] = x.low;
-    move_on(r, 1);
-    Outcome::Next
+/// The same with the carry.
+impl Operand for Wide {
+    ghost aimed_at = { wide };
+
+    ghost loaded = { with_wide };
+
+    fn read(r: &Registers, word: u16) -> Wide {
+        Wide {
+            carry: r.carry,
+            word: u16::read(r, word),
+        }
+    }
+
+    fn load(self, r: &mut Registers, word: u16) -> Outcome {
+        r.carry = self.carry;
+        self.word.load(r, word)
+    }
+}
+
+/// The destination and the accumulator after it, AC0 after AC3, as one number of 32 bits.
+impl Operand for Double {
+    ghost aimed_at = { doubled };
+
+    ghost loaded = { with_double };
+
+    fn read(r: &Registers, word: u16) -> Double {
+        let n = destination_of(word);
+        Double {
+            high: r.ac[n],
+            low: r.ac[(n + 1) % 4],
+        }
+    }
+
+    fn load(self, r: &mut Registers, word: u16) -> Outcome {
+        let n = destination_of(word);
+        r.ac[n] = self.high;
+        r.ac[(n + 1) % 4] = self.low;
+        move_on(r, 1);
+        Outcome::Next
+    }
 }

@@ -52,7 +52,8 @@ fn compare_users(left: &User, right: &User) -> Option<Difference>
     }
 }
 
-// The first cell of a block that differs.
+// The first cell of a block that differs. Both memories come by `&mut`, since a read may mend what a make keeps, and so
+// each contract here says that no cell changes; a struct of the two would have to say it of each.
 fn compare_block<M: Memory, N: Memory>(left: &mut M, right: &mut N, start: usize) -> Option<usize>
     requires { start < 1048576 }
     ensures answer { FirstApart (λ k. start + k) 1024 (M.Memory.cells left.old) (N.Memory.cells right.old) result }

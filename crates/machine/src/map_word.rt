@@ -9,6 +9,7 @@ use arithmetic::fields::{bits, low};
 use arithmetic::pointers::is_one;
 use model::{Denial, Switches, Who};
 
+// No `From<bool>`: that a truth stands for a user holds of the bits of a map word alone.
 fn user_by(b: bool) -> Who
     ensures { result ≡ user_by_bit b }
 {

@@ -4,7 +4,8 @@ ghost use Rattle.memory.specs.Numbers.{fault_number, wrong_size_number};
 use crate::fault::{MemoryFault, WrongSize};
 
 impl MemoryFault {
-    /// The number of the denial: 1 past the last cell, 2 at a spoiled cell.
+    /// The number of the denial: 1 past the last cell, 2 at a spoiled cell. A method and no `From`, since `u8::from` would
+    /// not say which number it gives.
     pub fn number(self) -> u8
         ensures { result ≡ fault_number self }
     {

@@ -1,5 +1,6 @@
 -- What one call of a user's reads and alters, and what it keeps.
 use Rattle.std.proofs.Common.{◌≡◌, ℕ, ◌/◌, ◌<◌, Bool, true, false, ◌&&◌, eqb, ltb, get_or, Some, None, Option, sym, refl, ap, subst, ap₂, ltb-true}
+use Rattle.std.proofs.lemmas.Bool.{cond_both}
 use mathlib.Core.Bool.{false≢true}
 use Rattle.memory.specs.Cells.{Row}
 use Rattle.model.specs.declared.user.Kind.{Kind}
@@ -11,7 +12,7 @@ use Rattle.model.specs.declared.user.User.{User}
 use Rattle.model.specs.declared.user.Who.{Who}
 use Rattle.model.specs.Machine.{ran, Acted, Deed, block, status, unlisted, start, run, show, act, started, run_by, kind_after, rested}
 use Rattle.model.specs.Isolation.{Within, Fenced, Same, Owned, Guest}
-use Rattle.model.proofs.Rows.{cond_rel, cond_if, same_refl, each_set}
+use Rattle.model.proofs.Rows.{cond_rel, same_refl, each_set}
 use Rattle.model.proofs.Locality.{runs_local, runs_frame}
 
 module _ (mine : ℕ → Bool) where
@@ -47,7 +48,7 @@ module _ (mine : ℕ → Bool) where
 
   -- ---- frame
   started_frame : (k : Kind) (who : Who) (u : User) (c : Row) (r : Registers) → Same mine c (started k who c u r).2
-  started_frame Held who u c r = cond_if (λ (x : Acted). Same mine c x.2) (ltb r.pc 32768) (λ e. same_refl) (λ e. same_refl)
+  started_frame Held who u c r = cond_both (ltb r.pc 32768) _ _ (λ (x : Acted). Same mine c x.2) (λ e. same_refl) (λ e. same_refl)
   started_frame Ready who u c r = same_refl
 
   run_frame : (k : Kind) (who : Who) (u : User) → AllFenced u.map.switches.write u → (c : Row) (n : ℕ) → Same mine c (run_by k who c u n).2
@@ -57,7 +58,7 @@ module _ (mine : ℕ → Bool) where
   pub act_frame : (who : Who) (u : User) → AllFenced u.map.switches.write u → (c : Row) (k : Deed) → Same mine c (act who c u k).2
   act_frame who u f c (block l p b) =
       let P : Acted → Type 0 = λ x. Same mine c x.2 in
-      cond_if P (p && eqb b 127) (λ e. same_refl) (λ e. cond_if P (ltb b (c.size / 1024)) (λ e'. same_refl) (λ e'. same_refl))
+      cond_both (p && eqb b 127) _ _ P (λ e. same_refl) (λ e. cond_both (ltb b (c.size / 1024)) _ _ P (λ e'. same_refl) (λ e'. same_refl))
   act_frame who u f c (status w) = same_refl
   act_frame who u f c unlisted = same_refl
   act_frame who u f c (start r) = started_frame u.kind who u c r
@@ -76,8 +77,8 @@ module _ (mine : ℕ → Bool) where
   pub act_within : (who : Who) (u : User) (c : Row) (n : ℕ) → c.size ≡ n → AllWithin mine u → (k : Deed) → Owned mine n k → AllWithin mine (act who c u k).1
   act_within who u c n e h (block l p b) o =
       let P : Acted → Type 0 = λ x. AllWithin mine x.1 in
-      cond_if P (p && eqb b 127) (λ t. each_set (Within mine) u.map.entries None None l tt h)
-      (λ t. cond_if P (ltb b (c.size / 1024))
+      cond_both (p && eqb b 127) _ _ P (λ t. each_set (Within mine) u.map.entries None None l tt h)
+      (λ t. cond_both (ltb b (c.size / 1024)) _ _ P
       (λ t'. each_set (Within mine) u.map.entries None (Some (record { block = b; protected = p })) l (o (subst (λ (m : ℕ). b < m / 1024) e (ltb-true b (c.size / 1024) t'))) h)
       (λ t'. h))
   act_within who u c n e h (status w) o = h
@@ -85,7 +86,7 @@ module _ (mine : ℕ → Bool) where
   act_within who u c n e h (start r) o = go u.kind
     where
       go : (k : Kind) → AllWithin mine (started k who c u r).1
-      go Held = cond_if (λ (x : Acted). AllWithin mine x.1) (ltb r.pc 32768) (λ t. h) (λ t. h)
+      go Held = cond_both (ltb r.pc 32768) _ _ (λ (x : Acted). AllWithin mine x.1) (λ t. h) (λ t. h)
       go Ready = h
   act_within who u c n e h (run m) o = go u.kind
     where
@@ -105,9 +106,9 @@ module _ (mine : ℕ → Bool) where
   pub act_guarded : (who : Who) (u : User) (c : Row) (n : ℕ) → c.size ≡ n → Guarded u → (k : Deed) → Guest mine n k → Guarded (act who c u k).1
   act_guarded who u c n e h (block l p b) o =
       let P : Acted → Type 0 = λ x. Guarded x.1 in
-      cond_if P (p && eqb b 127)
+      cond_both (p && eqb b 127) _ _ P
       (λ t. record { fenced = each_set (Fenced mine true) u.map.entries None None l tt h.fenced; guard = h.guard })
-      (λ t. cond_if P (ltb b (c.size / 1024))
+      (λ t. cond_both (ltb b (c.size / 1024)) _ _ P
       (λ t'. record { fenced = each_set (Fenced mine true) u.map.entries None (Some (record { block = b; protected = p })) l (o (subst (λ (m : ℕ). b < m / 1024) e (ltb-true b (c.size / 1024) t'))) h.fenced; guard = h.guard })
       (λ t'. h))
   act_guarded who u c n e h (status w) o = record { fenced = h.fenced; guard = o }
@@ -115,7 +116,7 @@ module _ (mine : ℕ → Bool) where
   act_guarded who u c n e h (start r) o = go u.kind
     where
       go : (k : Kind) → Guarded (started k who c u r).1
-      go Held = cond_if (λ (x : Acted). Guarded x.1) (ltb r.pc 32768) (λ t. record { fenced = h.fenced; guard = h.guard }) (λ t. h)
+      go Held = cond_both (ltb r.pc 32768) _ _ (λ (x : Acted). Guarded x.1) (λ t. record { fenced = h.fenced; guard = h.guard }) (λ t. h)
       go Ready = h
   act_guarded who u c n e h (run m) o = go u.kind
     where

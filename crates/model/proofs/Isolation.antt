@@ -1,5 +1,6 @@
 -- The agreement: what a user's calls come to rests on that user's calls and blocks alone.
 use Rattle.std.proofs.Common.{◌≡◌, ℕ, zero, suc, ◌/◌, ◌<◌, Bool, true, false, ◌&&◌, ltb, List, [], ◌∷◌, get_or, replicate, None, sym, refl, ap, ◌∙◌, subst, ap₂, subst₂, true≢false, lt-ltb}
+use Rattle.std.proofs.lemmas.Bool.{cond_both}
 use mathlib.Core.Bool.{false≢true}
 use Rattle.memory.specs.Cells.{Row, word}
 use Rattle.memory.specs.Answers.{written}
@@ -8,7 +9,7 @@ use Rattle.model.specs.declared.user.Who.{Who}
 use Rattle.model.specs.declared.user.Who.TheVariants.{A, B}
 use Rattle.model.specs.Machine.{Answer, Deed, act, Call, Sense, of, poke, peek, wordless, sense, State, user_of, carried, call, after_read, after_write, replay, fresh}
 use Rattle.model.specs.Isolation.{Within, Fenced, Same, Alike, FairSense, Fair, own_sense, own, in_blocks, pick, calls_of, answers_to, Agreement}
-use Rattle.model.proofs.Rows.{cond_if, same_refl, same_sym, same_trans, same_reading, same_writing, same_written, same_apart}
+use Rattle.model.proofs.Rows.{same_refl, same_sym, same_trans, same_reading, same_writing, same_written, same_apart}
 use Rattle.model.proofs.Acts.{AllWithin, Agree, act_local, act_frame, act_size, act_within, Guarded, guarded_fenced, act_guarded}
 
 abbrev other : Who → Who
@@ -24,7 +25,7 @@ and_not true y e f g = true≢false (sym g ∙ e)
 and_not false y e f g = false≢true f
 
 pub written_size : (c : Row) (at w : ℕ) → (written c at (word w)).size ≡ c.size
-written_size c at w = cond_if (λ (d : Row). d.size ≡ c.size) (ltb at c.size) (λ t. refl) (λ t. refl)
+written_size c at w = cond_both (ltb at c.size) _ _ (λ (d : Row). d.size ≡ c.size) (λ t. refl) (λ t. refl)
 
 module _ (who : Who) (mine : ℕ → Bool) (n : ℕ) where
   -- what a fair past keeps of a machine

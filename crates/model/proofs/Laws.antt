@@ -1,5 +1,6 @@
 -- The laws over any state and call.
 use Rattle.std.proofs.Common.{◌≡◌, ℕ, zero, suc, ◌+◌, ◌/◌, ◌≤◌, Bool, true, false, cond, ◌&&◌, eqb, ltb, Ok, Err, Result, refl, arith}
+use Rattle.std.proofs.lemmas.Bool.{cond_both}
 use Rattle.memory.specs.Cells.{Row, put, word}
 use Rattle.memory.specs.Answers as memory
 use Rattle.memory.specs.declared.fault.MemoryFault.{MemoryFault}
@@ -25,7 +26,6 @@ use Rattle.model.specs.Numbers.{number_of, values_of, by_fault, from_cause}
 use Rattle.model.specs.Run.{advanced, settled, runs}
 use Rattle.model.specs.Machine.{Answer, denied, refused, granted, got, permit, ran, shown, Acted, Deed, block, status, unlisted, start, run, show, act, started, run_by, Call, Sense, of, poke, peek, wordless, sense, State, after_read, after_write, carried, call}
 use Rattle.model.specs.Laws.{IfDenied, Bounded, RunBounded}
-use Rattle.model.proofs.Rows.{cond_if}
 
 -- ---- a denial has a number from 1 to 8 and changes nothing
 numbered : (d : Denial) → (1 ≤ number_of d) × (number_of d ≤ 8)
@@ -54,7 +54,7 @@ abbrev Quiet : Row → User → Acted → Type 0
 Quiet cs u x = IfDenied x.0 ((x.1 ≡ u) × (x.2 ≡ cs))
 
 started_quiet : (k : Kind) (who : Who) (cs : Row) (u : User) (r : Registers) → Quiet cs u (started k who cs u r)
-started_quiet Held who cs u r = cond_if (Quiet cs u) (ltb r.pc 32768) (λ t. tt) (λ t. with_number denial.Pc (refl, refl))
+started_quiet Held who cs u r = cond_both (ltb r.pc 32768) _ _ (Quiet cs u) (λ t. tt) (λ t. with_number denial.Pc (refl, refl))
 started_quiet Ready who cs u r = with_number denial.Permit (refl, refl)
 
 run_quiet : (k : Kind) (who : Who) (cs : Row) (u : User) (n : ℕ) → Quiet cs u (run_by k who cs u n)
@@ -63,8 +63,8 @@ run_quiet Ready who cs u n = tt
 
 act_quiet : (who : Who) (cs : Row) (u : User) (d : Deed) → Quiet cs u (act who cs u d)
 act_quiet who cs u (block l p b) =
-    cond_if (Quiet cs u) (p && eqb b 127) (λ t. tt)
-    (λ t. cond_if (Quiet cs u) (ltb b (cs.size / 1024)) (λ t'. tt) (λ t'. with_number denial.Block (refl, refl)))
+    cond_both (p && eqb b 127) _ _ (Quiet cs u) (λ t. tt)
+    (λ t. cond_both (ltb b (cs.size / 1024)) _ _ (Quiet cs u) (λ t'. tt) (λ t'. with_number denial.Block (refl, refl)))
 act_quiet who cs u (status s) = tt
 act_quiet who cs u unlisted = with_number denial.BadOption (refl, refl)
 act_quiet who cs u (start r) = started_quiet u.kind who cs u r

@@ -1,5 +1,6 @@
 -- What a load rests on, and what a store leaves as it was.
 use Rattle.std.proofs.Common.{◌≡◌, ℕ, false, cond, ◌&&◌, eqb, ltb, Some, None, Err, Option, sym, refl, ap, ◌∙◌, ap₂, eqb-true}
+use Rattle.std.proofs.lemmas.Bool.{cond_both}
 use Rattle.memory.specs.Cells.{Cell, Row}
 use Rattle.memory.specs.Answers as memory
 use Rattle.memory.specs.declared.fault.MemoryFault.TheVariants.{Range}
@@ -8,7 +9,6 @@ use Rattle.model.specs.declared.user.UserMap.{UserMap}
 use Rattle.model.specs.Faults.{located, faulted}
 use Rattle.model.specs.Access.{page_at, placed, read_at, written_at, loaded, stored_cells}
 use Rattle.model.specs.Programs.{led_by, place, Apart, Kept}
-use Rattle.model.proofs.Rows.{cond_if}
 use Rattle.model.proofs.Isolation.{written_size}
 
 -- a load rests on the cell that its address leads to, and on how many cells there are
@@ -31,10 +31,10 @@ store_keeps m cs a w x out = go (page_at m a) refl
     go : (o : Option Page) → page_at m a ≡ o → (written_at o m.switches.write cs a w).at x ≡ cs.at x
     go None h = refl
     go (Some p) h =
-        cond_if (λ (c : Row). c.at x ≡ cs.at x) (m.switches.write && p.protected) (λ t. refl)
+        cond_both (m.switches.write && p.protected) _ _ (λ (c : Row). c.at x ≡ cs.at x) (λ t. refl)
         (λ t.
-        cond_if (λ (c : Row). c.at x ≡ cs.at x) (ltb (placed p a) cs.size)
-        (λ l. cond_if (λ (y : Cell). y ≡ cs.at x) (eqb x (placed p a)) (λ e. absurd (out p h t (sym (eqb-true x (placed p a) e)))) (λ e. refl))
+        cond_both (ltb (placed p a) cs.size) _ _ (λ (c : Row). c.at x ≡ cs.at x)
+        (λ l. cond_both (eqb x (placed p a)) _ _ (λ (y : Cell). y ≡ cs.at x) (λ e. absurd (out p h t (sym (eqb-true x (placed p a) e)))) (λ e. refl))
         (λ l. refl))
 
 -- a store at another place changes no load
@@ -44,4 +44,4 @@ load_kept m cs a b v out =
   where
     size : (o : Option Page) → (written_at o m.switches.write cs b v).size ≡ cs.size
     size None = refl
-    size (Some p) = cond_if (λ (d : Row). d.size ≡ cs.size) (m.switches.write && p.protected) (λ t. refl) (λ t. written_size cs (placed p b) v)
+    size (Some p) = cond_both (m.switches.write && p.protected) _ _ (λ (d : Row). d.size ≡ cs.size) (λ t. refl) (λ t. written_size cs (placed p b) v)

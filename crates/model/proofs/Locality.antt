@@ -1,5 +1,6 @@
 -- What a step, and a run of steps, of a user can read and alter.
 use Rattle.std.proofs.Common.{◌≡◌, ℕ, zero, suc, ◌+◌, ◌/◌, ◌%◌, Bool, true, ◌&&◌, Some, None, Ok, Err, Option, Result, sym, refl, ap, ◌∙◌, subst, subst₂, true≢false, arith}
+use Rattle.std.proofs.lemmas.Bool.{cond_both}
 use Rattle.memory.specs.Cells.{Row, word}
 use Rattle.memory.specs.declared.fault.MemoryFault.{MemoryFault}
 use Rattle.model.specs.declared.fault.Fault.{Fault}
@@ -17,7 +18,7 @@ use Rattle.model.specs.Step.{instruction}
 use Rattle.model.specs.Run.{settle, turned, with_word, executed, advanced, settled, runs}
 use Rattle.model.specs.Laws.{Locality, Frame}
 use Rattle.model.specs.Isolation.{Within, Fenced, MapWithin, MapFenced, Same}
-use Rattle.model.proofs.Rows.{cond_rel, cond_if, same_refl, same_trans, same_reading, same_writing, same_written, same_apart}
+use Rattle.model.proofs.Rows.{cond_rel, same_refl, same_trans, same_reading, same_writing, same_written, same_apart}
 
 pub placed_block : (p : Page) (a : ℕ) → placed p a / 1024 ≡ p.block
 placed_block p a = omega arith
@@ -63,7 +64,7 @@ module _ (mine : ℕ → Bool) where
   written_frame : (e : Option Page) (on : Bool) → Fenced mine on e → (a w : ℕ) (c : Row) → Same mine c (written_at e on c a w)
   written_frame None on f a w c = same_refl
   written_frame (Some p) on f a w c =
-      cond_if (Same mine c) (on && p.protected) (λ t. same_refl)
+      cond_both (on && p.protected) _ _ (Same mine c) (λ t. same_refl)
       (λ t. same_apart (placed p a) (word w) (λ l m. true≢false (sym (f (subst (λ (b : ℕ). mine b ≡ true) (placed_block p a) m)) ∙ t)))
 
   onward_frame : {X Y : Type 0} (c : Row) (p : Done X) → Same mine c p.1 → (k : X → Row → Done Y) → ((x : X) (c' : Row) → Same mine c' (k x c').1) → Same mine c (onward p k).1

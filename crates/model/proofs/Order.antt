@@ -1,5 +1,6 @@
 -- Along any past every entry leads inside the memory, so that a memory stop is by a spoiled cell.
 use Rattle.std.proofs.Common.{◌≡◌, ℕ, zero, suc, ◌+◌, ◌/◌, ◌%◌, ◌<◌, Bool, false, cond, ◌&&◌, eqb, ltb, List, [], ◌∷◌, get_or, Some, None, Ok, Err, Option, Result, sym, refl, ap, ◌∙◌, subst, arith, ltb-true, lt-ltb}
+use Rattle.std.proofs.lemmas.Bool.{cond_both}
 use mathlib.Core.Bool.{false≢true}
 use Rattle.memory.specs.Cells.{Cell, Row, word, spoiled}
 use Rattle.memory.specs.Answers as memory
@@ -33,7 +34,6 @@ use Rattle.model.specs.Run.{settle, turned, with_word, executed, advanced, settl
 use Rattle.model.specs.Machine.{Answer, Acted, Deed, block, status, unlisted, start, run, show, act, started, run_by, Call, Sense, of, poke, peek, wordless, sense, State, after_read, after_write, carried, call, replay, fresh}
 use Rattle.model.specs.Isolation.{Within, Fenced, MapWithin, Owned}
 use Rattle.model.specs.Laws.{Inside, SpoiledOnly, All, Order}
-use Rattle.model.proofs.Rows.{cond_if}
 use Rattle.model.proofs.Locality.{perform_frame, advanced_frame}
 use Rattle.model.proofs.Acts.{AllWithin, act_size, act_within}
 use Rattle.model.proofs.Isolation.{written_size, each_none}
@@ -85,7 +85,7 @@ module _ (n : ℕ) where
   write_clean None i on c s a = tt
   write_clean (Some p) i on c s a =
       let h = placed_inside n p a (ltb-true p.block (n / 1024) i) in
-      cond_if (λ (x : Result (Unit {0}) MapFault). Clean (raised x)) (on && p.protected) (λ t. tt)
+      cond_both (on && p.protected) _ _ (λ (x : Result (Unit {0}) MapFault). Clean (raised x)) (λ t. tt)
       (λ t.
       subst (λ (b : Bool). Clean (raised (faulted (located {X = Unit {0}} (cond b (Ok tt) (Err unread.Range)) (placed p a) a))))
       (sym (lt-ltb (placed p a) c.size (subst (λ (k : ℕ). placed p a < k) (sym s) h))) tt)
@@ -162,12 +162,12 @@ module _ (n : ℕ) where
   run_by_good Ready who c s u i b = runs_good b 0 u.map i u.registers c s
 
   started_good : (k : Kind) (who : Who) (c : Row) (u : User) (r : Registers) → SpoiledOnly (started k who c u r).0
-  started_good Held who c u r = cond_if (λ (x : Acted). SpoiledOnly x.0) (ltb r.pc 32768) (λ t. tt) (λ t. tt)
+  started_good Held who c u r = cond_both (ltb r.pc 32768) _ _ (λ (x : Acted). SpoiledOnly x.0) (λ t. tt) (λ t. tt)
   started_good Ready who c u r = tt
 
   act_good : (who : Who) (c : Row) → c.size ≡ n → (u : User) → AllWithin (below n) u → (d : Deed) → SpoiledOnly (act who c u d).0
   act_good who c s u i (block l p b) =
-      cond_if (λ (x : Acted). SpoiledOnly x.0) (p && eqb b 127) (λ t. tt) (λ t. cond_if (λ (x : Acted). SpoiledOnly x.0) (ltb b (c.size / 1024)) (λ t'. tt) (λ t'. tt))
+      cond_both (p && eqb b 127) _ _ (λ (x : Acted). SpoiledOnly x.0) (λ t. tt) (λ t. cond_both (ltb b (c.size / 1024)) _ _ (λ (x : Acted). SpoiledOnly x.0) (λ t'. tt) (λ t'. tt))
   act_good who c s u i (status w) = tt
   act_good who c s u i unlisted = tt
   act_good who c s u i (start r) = started_good u.kind who c u r

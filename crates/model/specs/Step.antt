@@ -165,6 +165,9 @@ abbrev pub sbi : Registers → ℕ → Outcome × Registers
 sbi r w = changed (λ d. (d + 65536 - (source w + 1)) % 65536) r w
 
 -- the same with the carry
+abbrev pub wide : Registers → ℕ → Wide
+wide r w = record { carry = r.carry; word = aimed r w }
+
 abbrev pub with_wide : Registers → ℕ → Wide → Outcome × Registers
 with_wide r w x = (Next, moved (with_carry (with_accumulator r (destination w) x.word) x.carry) 1)
 

@@ -42,7 +42,7 @@ impl<T: Drop> From<WrongSize<T>> for Denial {
 }
 
 impl Denial {
-    /// The number of the denial, 1 to 8.
+    /// The number of the denial, 1 to 8. A method and no `From`, since `u8::from` would not say which number it gives.
     pub fn number(self) -> u8
         ensures { result ≡ number_of self }
     {
