@@ -1,5 +1,5 @@
-//! A bit and a byte of a word, by the pointer to it. No struct holds the two: they come from different places, and it would
-//! only wrap the arguments.
+//! A bit and a byte of a word, by the pointer to it. Pointer and word are two arguments: they come from different places,
+//! and a struct would only wrap them.
 
 ghost use Rattle.std.specs.Prelude.{◌≡◌, ◌%◌};
 ghost use Rattle.arithmetic.specs.Pointers.{weight, bit_is_one, with_one, with_zero, byte_in, with_byte};

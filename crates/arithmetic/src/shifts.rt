@@ -32,7 +32,7 @@ impl From<u32> for Double {
 }
 
 /// A number of a width in bits, which is shifted by any number of places.
-pub trait Logical: Copy {
+pub trait LogicalShift: Copy {
     ghost width: { ℕ };
 
     // The number that a value is, and the value of a number.
@@ -47,7 +47,7 @@ pub trait Logical: Copy {
         ensures { result ≡ of_number (shifted_right n (number_of self)) };
 }
 
-impl Logical for u16 {
+impl LogicalShift for u16 {
     ghost width = { 16 };
 
     ghost number_of = { λ x. x };
@@ -63,7 +63,7 @@ impl Logical for u16 {
     }
 }
 
-impl Logical for Double {
+impl LogicalShift for Double {
     ghost width = { 32 };
 
     ghost number_of = { number };
@@ -87,7 +87,7 @@ fn places(n: u16) -> u32
 }
 
 /// A number shifted by the signed one in the low byte of `count`: to the left where that is positive, else to the right.
-pub fn shift<T: Logical>(count: u16, x: T) -> T
+pub fn shift<T: LogicalShift>(count: u16, x: T) -> T
     ensures { result ≡ T.of_number (shifted_by_signed T.width (count % 256) (T.number_of x)) }
 {
     let n = u32::from(low(count, 8));
@@ -99,14 +99,14 @@ pub fn shift<T: Logical>(count: u16, x: T) -> T
 }
 
 /// A number shifted to the left by one to four hex digits.
-pub fn hex_left<T: Logical>(n: u16, x: T) -> T
+pub fn hex_left<T: LogicalShift>(n: u16, x: T) -> T
     ensures { result ≡ T.of_number (shifted_left T.width (hex_places n) (T.number_of x)) }
 {
     x.shifted_left(places(n))
 }
 
 /// A number shifted to the right by one to four hex digits.
-pub fn hex_right<T: Logical>(n: u16, x: T) -> T
+pub fn hex_right<T: LogicalShift>(n: u16, x: T) -> T
     ensures { result ≡ T.of_number (shifted_right (hex_places n) (T.number_of x)) }
 {
     x.shifted_right(places(n))

@@ -69,7 +69,8 @@ impl Wide {
     }
 }
 
-// `of`, here and below, and no `From<u16>`: a word is no operation, but has one of each of these four.
+// Named `of`, here and below, and no `From<u16>`: a word is not a function, a shift, a carry base or a skip, but has a
+// field for each.
 impl Function {
     fn of(word: u16) -> Function
         ensures { result ≡ function_of (word / 256 % 8) }

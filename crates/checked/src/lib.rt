@@ -12,10 +12,10 @@ ghost use Rattle.std.proofs.Common.{arith, rules};
 ghost use Rattle.hamming.proofs.Linear.{word_lt};
 
 use hamming::{encode, mend, word};
-use memory::{Memory, MemoryFault, WrongSize, in_blocks};
+use memory::{Memory, MemoryFault, WrongSize, whole_blocks};
 
-/// Checked core: a list of numbers, each with 21 positions and higher bits that are ignored. It is no instance of one core
-/// for any coding: what a read and a write leave of a number is promised here alone.
+/// Checked core: a list of numbers, each with 21 positions and higher bits that are ignored. Plain core and
+/// this one are no two instances of one generic core: what a read and a write leave of a number is promised here alone.
 #[derive(Drop)]
 pub struct CheckedCore {
     numbers: Vec<u32>,
@@ -29,7 +29,7 @@ impl CheckedCore {
         ensures answer { outcome (λ m. checked m.numbers.items) result ≡ (if whole (vec_len numbers) then Ok (checked numbers.items) else Err numbers) }
         ensures flip { OneFlip }
     {
-        let numbers = in_blocks(numbers)?;
+        let numbers = whole_blocks(numbers)?;
         Ok(CheckedCore { numbers })
     }
 }

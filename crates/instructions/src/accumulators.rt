@@ -1,12 +1,12 @@
-//! Instructions on accumulators alone, and those whose operand is their second word. Those that differ only in what
-//! they make of their operands take it as a function.
+//! Instructions on accumulators alone, and those whose operand is their second word. Instructions that differ only in
+//! their operation share one function here, which takes the operation.
 
 ghost use Rattle.std.specs.Prelude.{◌≡◌, ℕ, Bool, Ok, Err, IfOk, IfErr};
 ghost use Rattle.addressing.specs.Mapped.{Performs};
 ghost use Rattle.model.specs.Step.{sourced, aimed, doubled};
 ghost use Rattle.model.specs.Step as step;
 
-use crate::registers::{Operand, destination_of, move_on, source_in, source_of};
+use crate::registers::{Destination, destination_of, move_on, source_in, source_of};
 use addressing::mapped::Mapped;
 use arithmetic::counts::{add_leading_zeros, reset_leading_one};
 use arithmetic::fields::{bits, low};
@@ -21,7 +21,7 @@ pub(crate) fn immediate_of(word: u16) -> u16
 }
 
 // The destination becomes what `f` makes of the source and of it.
-pub(crate) fn combine<T: Operand, F: FnOnce(u16, T) -> T>(
+pub(crate) fn combine<T: Destination, F: FnOnce(u16, T) -> T>(
     r: &mut Registers,
     word: u16,
     f: F,
@@ -83,8 +83,8 @@ fn second_word<M: Memory>(m: &mut Mapped<'_, M>, r: &Registers) -> Result<u16, F
     m.fetch(low(r.pc.wrapping_add(1), 15))
 }
 
-// The destination becomes what `f` makes of that word and of it. By cases, since a ghost value that stands for `f` cannot
-// be picked at a closure in generic code.
+// The destination becomes what `f` makes of that word and of it. The contract has two cases, since generic code cannot name
+// the function on numbers that a closure computes.
 pub(crate) fn immediate<M: Memory, F: FnOnce(u16, u16) -> u16>(
     m: &mut Mapped<'_, M>,
     r: &mut Registers,

@@ -7,7 +7,7 @@ ghost use Rattle.model.specs.Step as step;
 
 use crate::accumulators::{combine, compare, immediate, immediate_of, lrb, pass, xch};
 use crate::decode::decode;
-use crate::registers::{Operand, destination_of, move_on, source_in};
+use crate::registers::{Destination, destination_of, move_on, source_in};
 use addressing::mapped::Mapped;
 use arithmetic::counts::{add_leading_zeros, add_ones};
 use arithmetic::digits::{add_digit, subtract_digit};
@@ -131,7 +131,7 @@ fn execute<M: Memory>(
         Operation::Iori => immediate(m, r, word, |i, d| i | d)?,
         Operation::Xori => immediate(m, r, word, |i, d| i ^ d)?,
         Operation::Andi => immediate(m, r, word, |i, d| i & d)?,
-        // A closure, since `u16::wrapping_add` by name left a goal open.
+        // A closure: with `u16::wrapping_add` by name the proof does not close.
         Operation::Addi => immediate(m, r, word, |i, d| i.wrapping_add(d))?,
         Operation::Lmp => pass(r),
         Operation::Syc => syc(r),

@@ -1,5 +1,5 @@
-//! The accumulators that a word names, and the PC. Registers and a word go together here, and in no struct: it would borrow
-//! the registers, and each contract would have to say that it still borrows the same.
+//! The accumulators that a word names, and the PC. Registers and a word are two parameters here
+//! and no struct: it would borrow the registers, and each contract would have to say that it still borrows the same ones.
 
 ghost use Rattle.std.specs.Prelude.{◌≡◌, ℕ, ◌<◌};
 ghost use Rattle.model.specs.Address.{moved};
@@ -12,7 +12,7 @@ use arithmetic::shifts::Double;
 use arithmetic::unit::Wide;
 use model::{Outcome, Registers};
 
-// A function for each field, and none of a field's place: the names say what the bits are.
+// One function for each field, and not one that is given a field's place: the names say what the bits are.
 pub(crate) fn source_of(word: u16) -> usize
     ensures value { result ≡ source word }
     ensures bound { result < 4 }
@@ -40,7 +40,7 @@ pub(crate) fn move_on(r: &mut Registers, by: u16)
 }
 
 /// What an instruction finds at its destination and leaves there.
-pub(crate) trait Operand: Copy {
+pub(crate) trait Destination: Copy {
     ghost aimed_at: { Registers → ℕ → Self };
 
     ghost loaded: { Registers → ℕ → Self → Outcome × Registers };
@@ -54,7 +54,7 @@ pub(crate) trait Operand: Copy {
 }
 
 /// The word of the destination.
-impl Operand for u16 {
+impl Destination for u16 {
     ghost aimed_at = { aimed };
 
     ghost loaded = { loaded_with };
@@ -70,8 +70,8 @@ impl Operand for u16 {
     }
 }
 
-/// The same with the carry.
-impl Operand for Wide {
+/// The word of the destination, with the carry.
+impl Destination for Wide {
     ghost aimed_at = { wide };
 
     ghost loaded = { with_wide };
@@ -90,7 +90,7 @@ impl Operand for Wide {
 }
 
 /// The destination and the accumulator after it, AC0 after AC3, as one number of 32 bits.
-impl Operand for Double {
+impl Destination for Double {
     ghost aimed_at = { doubled };
 
     ghost loaded = { with_double };

@@ -16,14 +16,15 @@ abbrev pub read : Result ℕ Denial → Answer
 read (Ok w) = got w
 read (Err e) = denied e
 
--- a map word, read: what it sets, or the denial that it meets on any machine
+-- what a map word sets
 abbrev pub meant : Who × Setting → Sense
 meant (who, Entry e) = of who (Deed.block e.logical e.protected e.block)
 meant (who, Switches s) = of who (Deed.status s)
 
-abbrev pub Reads : Result (Who × Setting) Denial → Sense → Type 0
-Reads (Ok x) m = meant x ≡ m
-Reads (Err e) m = (s : State) → carried s m ≡ (denied e, s)
+-- a map word, read: what it sets; or a denial, which it then meets in any state
+abbrev pub ReadsMapWord : Result (Who × Setting) Denial → Sense → Type 0
+ReadsMapWord (Ok x) m = meant x ≡ m
+ReadsMapWord (Err e) m = (s : State) → carried s m ≡ (denied e, s)
 
 -- a user's start and run
 abbrev pub after_start : Who → Result (Unit {0}) Denial → Answer

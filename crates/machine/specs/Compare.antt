@@ -59,9 +59,9 @@ abbrev pub NoneIfAlike : Option Difference → Who → List ℕ → State → St
 NoneIfAlike r who blocks s t = (mine : ℕ → Bool) → Among blocks mine → Alike who mine s t → r ≡ None
 
 -- ---- a difference, told in words
-abbrev pub text : Difference → List ℕ
-text Registers = codes "registers differ"
-text Map = codes "map differs"
-text Kind = codes "kind of permit differs"
-text LatestStop = codes "latest stop differs"
-text (Cell n) = codes "cell " ++ octal n ++ codes " differs"
+abbrev pub difference_text : Difference → List ℕ
+difference_text Registers = codes "registers differ"
+difference_text Map = codes "map differs"
+difference_text Kind = codes "kind of permit differs"
+difference_text LatestStop = codes "latest stop differs"
+difference_text (Cell n) = codes "cell " ++ octal n ++ codes " differs"

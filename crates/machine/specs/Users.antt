@@ -15,6 +15,6 @@ abbrev pub with_user : Who → Users → User → Users
 with_user A us u = record { a = u; b = us.b }
 with_user B us u = record { a = us.a; b = u }
 
--- the records end with that user's as the last value behind r
+-- when r ends, the records are as before, but that user's is the last value behind r
 abbrev pub LendsUser : MutBor Users → Who → MutBor User → Fml
 LendsUser us who r = Lends the_row user_row us r (with_user who us.now)

@@ -38,7 +38,8 @@ pub struct Shown {
     pub latest: Option<Stop>,
 }
 
-// No entry has a block, write and indirect protection are on, LEF is off.
+// No entry has a block, write and indirect protection are on, LEF is off. The registers are spelled out, since a
+// constant's value may contain no call.
 const NEW_USER: User = User {
     registers: Registers {
         ac: [0; 4],

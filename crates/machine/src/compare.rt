@@ -4,7 +4,7 @@ ghost use Rattle.std.specs.Prelude.{◌≡◌, ℕ, ◌+◌, ◌<◌, Some};
 ghost use Rattle.model.specs.Isolation.{Agreement};
 ghost use Rattle.model.specs.Laws.{Order, Locality, Frame};
 ghost use Rattle.machine.specs.Machine.{modelled};
-ghost use Rattle.machine.specs.Compare.{ToldApart, FirstApart, CellsApart, Compared, NoneIfAlike, text};
+ghost use Rattle.machine.specs.Compare.{ToldApart, FirstApart, CellsApart, Compared, NoneIfAlike, difference_text};
 
 use crate::calls::Machine;
 use memory::Memory;
@@ -23,7 +23,7 @@ pub enum Difference {
 }
 
 impl fmt::Display for Difference {
-    ghost output = { λ d. Some (text d) };
+    ghost output = { λ d. Some (difference_text d) };
 
     fn fmt<W: fmt::Write>(&self, f: &mut fmt::Formatter<W>) -> fmt::Result {
         match *self {
@@ -60,7 +60,7 @@ fn compare_block<M: Memory, N: Memory>(left: &mut M, right: &mut N, start: usize
     ensures left { M.Memory.cells left.new ≡ M.Memory.cells left.old }
     ensures right { N.Memory.cells right.new ≡ N.Memory.cells right.old }
 {
-    // A loop, since nothing would be known of memories that the closure of a `find` has read.
+    // A loop: nothing is known of a memory after the closure of a `find` has read it.
     for at in start..start + 1024 {
         if left.read(at) != right.read(at) {
             return Some(at);

@@ -2,14 +2,14 @@
 
 ghost use Rattle.std.specs.Prelude.{◌≡◌, ℕ, ◌%◌, not, ◌||◌, ◌==◌};
 ghost use Rattle.model.specs.Machine.{sense_of_word, user_by_bit, bit as bit_of};
-ghost use Rattle.machine.specs.Calls.{Reads};
+ghost use Rattle.machine.specs.Calls.{ReadsMapWord};
 
 use crate::setting::{Entry, Setting};
 use arithmetic::fields::{bits, low};
 use arithmetic::pointers::is_one;
 use model::{Denial, Switches, Who};
 
-// No `From<bool>`: that a truth stands for a user holds of the bits of a map word alone.
+// No `From<bool>`: in a map word alone does a bit stand for a user.
 fn user_by(b: bool) -> Who
     ensures { result ≡ user_by_bit b }
 {
@@ -17,7 +17,7 @@ fn user_by(b: bool) -> Who
 }
 
 // Bits 6-7 are 1, or they are 0 and bit 1 is 1.
-fn is_neither(w: u16) -> bool
+fn is_wordless(w: u16) -> bool
     ensures { result ≡ (bit_of w 256 || bit_of w 16384) }
 {
     is_one(7, w) || is_one(1, w)
@@ -32,7 +32,7 @@ fn is_unlisted(w: u16) -> bool
 
 /// Reads a map word. Bit 0 is ignored, and in a status word also bits 3-5 and 8.
 pub(crate) fn read_map_word(w: u16) -> Result<(Who, Setting), Denial>
-    ensures { Reads result (sense_of_word w) }
+    ensures { ReadsMapWord result (sense_of_word w) }
 {
     if is_one(6, w) {
         let entry = Entry {
@@ -42,7 +42,7 @@ pub(crate) fn read_map_word(w: u16) -> Result<(Who, Setting), Denial>
         };
         return Ok((user_by(is_one(7, w)), Setting::Entry(entry)));
     }
-    if is_neither(w) || is_unlisted(w) {
+    if is_wordless(w) || is_unlisted(w) {
         return Err(Denial::BadOption);
     }
     let switches = Switches {

@@ -5,7 +5,7 @@ ghost use Rattle.std.proofs.Common.{rules, arith};
 
 use crate::fault::{MemoryFault, WrongSize};
 use crate::meaning::Memory;
-use crate::size::in_blocks;
+use crate::size::whole_blocks;
 
 /// Plain core: a list of words, none of them spoiled.
 #[derive(Drop)]
@@ -19,7 +19,7 @@ impl PlainCore {
     pub fn new(words: Vec<u16>) -> Result<PlainCore, WrongSize<Vec<u16>>>
         ensures { outcome (λ m. sound m.words.items) result ≡ (if whole (vec_len words) then Ok (sound words.items) else Err words) }
     {
-        let words = in_blocks(words)?;
+        let words = whole_blocks(words)?;
         Ok(PlainCore { words })
     }
 }

@@ -11,7 +11,7 @@ pub fn is_whole(n: usize) -> bool
 }
 
 /// The cells of a memory, if they are 1 to 127 whole blocks; else they come back.
-pub fn in_blocks<T>(cells: Vec<T>) -> Result<Vec<T>, WrongSize<Vec<T>>>
+pub fn whole_blocks<T>(cells: Vec<T>) -> Result<Vec<T>, WrongSize<Vec<T>>>
     ensures { result ≡ (if whole (vec_len cells) then Ok cells else Err (record { back = cells })) }
 {
     if is_whole(cells.len()) {

@@ -54,8 +54,8 @@ replaced a w = do
   _ ← writing a w
   ret w
 
--- one fetch of a chain: the new value of an automatic location gives address and bit 0. `cond` stands where the values
--- are accesses, a type above those that `if` chooses between
+-- one fetch of a chain: the new value of an automatic location gives address and bit 0. Accesses are chosen by `cond`,
+-- since `if` chooses between values of the lowest types alone
 abbrev pub link : ℕ → Access ℕ
 link a = do
   w ← reading a

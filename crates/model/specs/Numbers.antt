@@ -51,10 +51,11 @@ abbrev pub latest_values : Option Stop → StopValues
 latest_values None = stop_values 0 0 0 0 0 0
 latest_values (Some s) = values_of s
 
--- the text of a stop's numbers, its reason and its cause in decimal digits and the others in octal digits
+-- a number in octal digits, one digit for 0
 abbrev pub octal : ℕ → List ℕ
 octal n = digits 8 false n
 
+-- the text of a stop's numbers: its reason and its cause in decimal digits, the others in octal digits
 abbrev pub stop_text : StopValues → List ℕ
 stop_text s =
     codes "stop " ++ (decimal s.reason

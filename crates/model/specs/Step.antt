@@ -150,7 +150,7 @@ aimed r w = accumulator r (destination w)
 abbrev pub loaded_with : Registers → ℕ → ℕ → Outcome × Registers
 loaded_with r w x = (Next, moved (with_accumulator r (destination w) x) 1)
 
--- it becomes what f makes of it, or of the source and it
+-- the destination becomes what f makes of it (`changed`), or of the source and it (`combined`)
 abbrev pub changed : (ℕ → ℕ) → Registers → ℕ → Outcome × Registers
 changed f r w = loaded_with r w (f (aimed r w))
 
@@ -164,7 +164,7 @@ adi r w = changed (λ d. (d + (source w + 1)) % 65536) r w
 abbrev pub sbi : Registers → ℕ → Outcome × Registers
 sbi r w = changed (λ d. (d + 65536 - (source w + 1)) % 65536) r w
 
--- the same with the carry
+-- the destination's word with the carry, and both loaded
 abbrev pub wide : Registers → ℕ → Wide
 wide r w = record { carry = r.carry; word = aimed r w }
 
@@ -181,10 +181,11 @@ anc = combined (λ s d. bit_and (65535 - s) d)
 abbrev pub xch : Registers → ℕ → Outcome × Registers
 xch r w = (Next, moved (with_accumulator (with_accumulator r (source w) (aimed r w)) (destination w) (sourced r w)) 1)
 
--- the next word is skipped where a comparison of the signed numbers holds
+-- the next word is skipped where b is true
 abbrev pub skip_if : Bool → Registers → Outcome × Registers
 skip_if b r = (Next, moved r (if b then 2 else 1))
 
+-- or where f holds of the two signed numbers
 abbrev pub compared : (ℤ → ℤ → Bool) → Registers → ℕ → Outcome × Registers
 compared f r w = skip_if (f (integer (sourced r w)) (integer (aimed r w))) r
 

@@ -1,8 +1,7 @@
 ghost use Rattle.std.specs.Prelude.{◌≡◌, ◌++◌, Some, codes, decimal};
 ghost use Rattle.model.specs.Numbers.{number_of, from_cause};
-ghost use Rattle.model.specs.declared.denial.Denial.TheVariants.{Size};
 
-use memory::{MemoryFault, WrongSize};
+use memory::MemoryFault;
 use std::error::Error;
 use std::fmt;
 
@@ -30,14 +29,6 @@ impl From<MemoryFault> for Denial {
 
     fn from(value: MemoryFault) -> Denial {
         Denial::Memory(value)
-    }
-}
-
-impl<T: Drop> From<WrongSize<T>> for Denial {
-    ghost from_gives = { λ _ y. y ≡ Size };
-
-    fn from(_value: WrongSize<T>) -> Denial {
-        Denial::Size
     }
 }
 

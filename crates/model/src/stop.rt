@@ -24,8 +24,8 @@ pub enum Stop {
     },
 }
 
-/// The six numbers of a stop; one that is absent is 0. The code goes by `Stop`: these are what a report and a host are
-/// told, and numbers by the machine's rules.
+/// The six numbers of a stop; one that is absent is 0. The code works with `Stop`; these numbers are what a
+/// report and a host are told, and the machine's rules are in terms of them.
 #[derive(Clone, Copy, PartialEq, Eq, Debug)]
 pub struct StopValues {
     pub reason: u8,

@@ -73,7 +73,7 @@ pub struct User {
     pub latest: Option<Stop>,
 }
 
-// By hand, since a derived test would have no clause that says that equal values are one.
+// By hand: a derived test promises which test it computes, and not that it decides equality.
 impl PartialEq for Registers {
     ghost eq = { registers_eq };
 

@@ -2,7 +2,7 @@ use Rattle.std.proofs.Common.{◌≡◌, ℕ, cond, nat_eq, List, [], ◌∷◌,
 use Rattle.std.specs.Cmp.Lexicographic.{pointwise}
 use Rattle.reading.specs.Read.{after}
 
--- what is left after a word, by the words of `strip_prefix`
+-- `after`, as `strip_prefix` says it
 pub after_prefix : (ws bs : List ℕ) → after ws bs ≡ cond (pointwise nat_eq (take (length ws) bs) ws) (Some (drop (length ws) bs)) None
 unfolding after
 after_prefix [] bs = refl

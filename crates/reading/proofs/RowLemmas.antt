@@ -22,7 +22,7 @@ enough_by : (j k : ℕ) (bs : List ℕ) (o : Option (Row × List ℕ)) → row b
 enough_by j k bs None p ih = refl
 enough_by j k bs (Some (r, cs)) p ih = ap (λ rs. Ok r ∷ rs) (ih cs (row_shorter bs cs r p))
 
--- more than enough rows are the same
+-- the rows do not depend on the limit, where it is at least the length
 enough : (j k : ℕ) (bs : List ℕ) → length bs ≤ j → length bs ≤ k → rows_within j bs ≡ rows_within k bs
 enough zero zero bs h l = refl
 enough zero (suc k) bs h l = grind arith

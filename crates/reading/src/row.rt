@@ -21,8 +21,7 @@ pub(crate) struct Fields {
     pub(crate) word: u16,
 }
 
-// A wrong row has no reason to tell, so that an Option serves here and in `who_of`, and no TryFrom, whose error would be
-// dropped at once.
+// A wrong row carries no reason, so `Option` serves here and in `who_of`; the error of a `TryFrom` would be dropped at once.
 impl Fields {
     /// What the four numbers ask for. `do` 0 maps `word`, 1 puts `word` at `at`, 2 starts `user` at `at`, 3 runs `user`
     /// with budget `word`. A field that `do` does not name must be 0, and a `do` over 3 is wrong.

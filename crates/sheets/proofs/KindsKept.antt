@@ -4,7 +4,7 @@ use Rattle.std.proofs.lemmas.Bool.{cond_both}
 use Rattle.model.specs.declared.user.Who.{Who}
 use Rattle.model.specs.declared.user.Who.TheVariants.{A, B}
 use Rattle.model.specs.Machine.{State, user_of, lifted, Acted, Sense, Deed, act, carried, call, map, sense_of_word, bit, user_by_bit}
-use Rattle.sheets.specs.Lines.{Outcome}
+use Rattle.sheets.specs.Lines.{Told}
 
 abbrev Kept : State → State → Type 0
 Kept s t = (t.a.kind ≡ s.a.kind) × (t.b.kind ≡ s.b.kind)
@@ -31,5 +31,5 @@ map_kept s w =
     lifted_kept who s _ (cond_both (bit w 32 || not (eqb (w % 8) 0)) _ _ P (λ _. refl) (λ _. refl))))
 
 -- what comes of a row and the state are those of the rules, and so are the kinds
-pub same_kinds : {x y : Outcome × State} → x ≡ y → Kept y.1 x.1
-same_kinds e = (ap (λ (x : Outcome × State). x.1.a.kind) e, ap (λ (x : Outcome × State). x.1.b.kind) e)
+pub same_kinds : {x y : Told × State} → x ≡ y → Kept y.1 x.1
+same_kinds e = (ap (λ (x : Told × State). x.1.a.kind) e, ap (λ (x : Told × State). x.1.b.kind) e)

@@ -1,4 +1,4 @@
--- The machine that the rows of a sheet go by.
+-- The memory of a sheet's machine.
 use Rattle.std.specs.Prelude.{vec_items}
 use Rattle.memory.specs.Cells.{Row, sound}
 use Rattle.memory.specs.declared.plain.PlainCore.{PlainCore}

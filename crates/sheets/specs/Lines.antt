@@ -11,17 +11,17 @@ use Rattle.sheets.specs.declared.line.Granted.{Granted}
 abbrev pub starting_at : ℕ → Registers
 starting_at at = record { ac = replicate 4 0; carry = false; pc = at }
 
--- zeros after the answer
+-- a granted row that shows zeros
 abbrev pub quiet : Granted
 quiet = record { stop = None; steps = 0; registers = starting_at 0 }
 
 -- what comes of a row: a denial, or what a granted row shows
-abbrev pub Outcome : Type 0
-Outcome = Result Granted Denial
+abbrev pub Told : Type 0
+Told = Result Granted Denial
 
 -- a call's answer, r being the registers of its user after it: denials, map words and puts show zeros, a start the
 -- registers, and a run also its stop and its steps
-abbrev pub told : Answer → Registers → Outcome
+abbrev pub told : Answer → Registers → Told
 told (denied d) r = Err d
 told (refused d w k) r = Err d
 told granted r = Ok quiet
@@ -31,16 +31,16 @@ told (ran n s w k) r = Ok (record { stop = Some s; steps = n; registers = r })
 told (shown q k s) r = Ok quiet
 
 -- answer stop steps pc ac0 ac1 ac2 ac3 carry
-abbrev pub answered : ℕ → Granted → List ℕ
-answered answer l =
+abbrev pub numbers_after : ℕ → Granted → List ℕ
+numbers_after answer l =
     answer ∷ (latest_values l.stop).reason ∷ l.steps ∷ l.registers.pc
     ∷ slice_index l.registers.ac 0 ∷ slice_index l.registers.ac 1 ∷ slice_index l.registers.ac 2 ∷ slice_index l.registers.ac 3
     ∷ (if l.registers.carry then 1 else 0) ∷ []
 
-abbrev pub numbers : Outcome → List ℕ
-numbers (Ok l) = answered 0 l
-numbers (Err d) = answered (number_of d) quiet
+abbrev pub numbers : Told → List ℕ
+numbers (Ok l) = numbers_after 0 l
+numbers (Err d) = numbers_after (number_of d) quiet
 
 -- row answer stop steps pc ac0 ac1 ac2 ac3 carry
-abbrev pub line_bytes : ℕ → Outcome → List ℕ
+abbrev pub line_bytes : ℕ → Told → List ℕ
 line_bytes number o = line number (numbers o)

@@ -4,7 +4,7 @@ ghost use Rattle.std.specs.Prelude.{◌≡◌, ℕ};
 ghost use Rattle.model.specs.Machine.{map as mapping, put as putting, start as starting, run as running, call as called};
 ghost use Rattle.machine.specs.Machine.{modelled, Fits};
 ghost use Rattle.sheets.specs.Lines.{starting_at};
-ghost use Rattle.sheets.specs.Rows.{carried_out, lined, turned};
+ghost use Rattle.sheets.specs.Rows.{carried_out, told_after, own_then_other};
 
 use crate::desk::Desk;
 use crate::line::{Granted, quiet};
@@ -14,14 +14,14 @@ use model::{Denial, Registers, Who};
 use reading::Row;
 
 fn map_row<M: Memory>(machine: &mut Machine<M>, word: u16) -> Result<Granted, Denial>
-    ensures { (result, modelled M.Memory.cells machine.new) ≡ lined Who.A (called (modelled M.Memory.cells machine.old) (mapping word)) }
+    ensures { (result, modelled M.Memory.cells machine.new) ≡ told_after Who.A (called (modelled M.Memory.cells machine.old) (mapping word)) }
 {
     machine.map(word)?;
     Ok(quiet())
 }
 
 fn put_row<M: Memory>(machine: &mut Machine<M>, at: u16, word: u16) -> Result<Granted, Denial>
-    ensures { (result, modelled M.Memory.cells machine.new) ≡ lined Who.A (called (modelled M.Memory.cells machine.old) (putting at word)) }
+    ensures { (result, modelled M.Memory.cells machine.new) ≡ told_after Who.A (called (modelled M.Memory.cells machine.old) (putting at word)) }
 {
     machine.put(usize::from(at), word)?;
     Ok(quiet())
@@ -35,7 +35,7 @@ fn start_row<M: Memory>(
     at: u16,
 ) -> (Result<Granted, Denial>, Permit)
     requires { Fits who machine.old permit }
-    ensures line { (result.0, modelled M.Memory.cells machine.new) ≡ lined who (called (modelled M.Memory.cells machine.old) (starting who (starting_at at))) }
+    ensures told { (result.0, modelled M.Memory.cells machine.new) ≡ told_after who (called (modelled M.Memory.cells machine.old) (starting who (starting_at at))) }
     ensures fits { Fits who machine.new result.1 }
 {
     let held = match permit {
@@ -62,7 +62,7 @@ fn run_row<M: Memory>(
     budget: u16,
 ) -> (Result<Granted, Denial>, Permit)
     requires { Fits who machine.old permit }
-    ensures line { (result.0, modelled M.Memory.cells machine.new) ≡ lined who (called (modelled M.Memory.cells machine.old) (running who budget)) }
+    ensures told { (result.0, modelled M.Memory.cells machine.new) ≡ told_after who (called (modelled M.Memory.cells machine.old) (running who budget)) }
     ensures fits { Fits who machine.new result.1 }
 {
     let ready = match permit {
@@ -82,9 +82,9 @@ fn run_row<M: Memory>(
     }
 }
 
-/// Puts the user's own first. Twice gives the two in their order again.
+/// Of A's and B's, the user's own first. Done twice, the order is as before.
 fn own_first<T>(user: Who, a: T, b: T) -> (T, T)
-    ensures { result ≡ turned user a b }
+    ensures { result ≡ own_then_other user a b }
 {
     match user {
         Who::A => (a, b),

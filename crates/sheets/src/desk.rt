@@ -3,8 +3,8 @@ ghost use Rattle.machine.specs.Machine.{Fits};
 
 use machine::{Machine, Permit};
 
-/// The machine of a sheet, and the permits of its users: each is its user's, and of the kind that the machine's record
-/// has.
+/// The machine of a sheet, and the permits of its users: each permit is its own user's, and of the kind that the
+/// machine's record has.
 #[derive(Drop)]
 pub(crate) struct Desk<M> {
     pub machine: Machine<M>,

@@ -13,7 +13,7 @@ pub fn survey<M: Memory>(memory: &mut M) -> Option<usize>
     ensures answer { Surveyed (M.Memory.cells memory.old) result }
     ensures after { M.Memory.cells memory.new ≡ M.Memory.cells memory.old }
 {
-    // A loop, since nothing would be known of a memory that the closure of a `find` has read.
+    // A loop: nothing is known of a memory after the closure of a `find` has read it.
     for at in 0..memory.size() {
         if let Err(MemoryFault::Spoiled) = memory.read(at) {
             return Some(at);

@@ -30,10 +30,11 @@ use std::{fmt, fs};
 /// What is asked of all cases of a group besides what each of them tells.
 #[derive(Clone, Copy, PartialEq, Eq)]
 enum Terms {
+    /// The run ends because its budget is spent.
     Plain,
-    /// An I/O word is the instruction LEF.
+    /// The same, and an I/O word is the instruction LEF.
     Lef,
-    /// The run ends because of the call.
+    /// The run ends because the supervisor is called.
     Call,
 }
 

@@ -8,9 +8,9 @@ pub returns-then-is_one : goal.returns-then-is_one
 unfolding sense_of_word
 returns-then-is_one c = grind (arith, nat_tests)
 
-pub returns-then-is_neither : goal.returns-then-is_neither
+pub returns-then-is_wordless : goal.returns-then-is_wordless
 unfolding sense_of_word
-returns-then-is_neither c = λ s. grind (arith, nat_tests, unlisted)
+returns-then-is_wordless c = λ s. grind (arith, nat_tests, unlisted)
 
 pub returns : goal.returns
 unfolding sense_of_word

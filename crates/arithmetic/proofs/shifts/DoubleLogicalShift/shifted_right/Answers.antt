@@ -1,6 +1,6 @@
 use Rattle.std.proofs.Common.{arith}
 use Rattle.arithmetic.proofs.Words.{none_above}
-use Rattle.arithmetic.proofs.shifts.DoubleLogical.shifted_right.Goals as goal
+use Rattle.arithmetic.proofs.shifts.DoubleLogicalShift.shifted_right.Goals as goal
 
 pub returns : goal.returns
 returns c = grind (arith, none_above 32)

@@ -1,6 +1,6 @@
 use Rattle.std.proofs.Common.{arith}
 use Rattle.arithmetic.proofs.Words.{none_below}
-use Rattle.arithmetic.proofs.shifts.U16Logical.shifted_left.Goals as goal
+use Rattle.arithmetic.proofs.shifts.U16LogicalShift.shifted_left.Goals as goal
 
 pub returns : goal.returns
 returns c = grind (arith, none_below 16)
