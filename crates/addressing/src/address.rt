@@ -6,6 +6,7 @@ ghost use Rattle.model.specs.Address.{displaced, first_address, chain_limit, lin
 
 use crate::mapped::Mapped;
 use arithmetic::fields::{bits, low};
+use arithmetic::pointers::is_one;
 use memory::Memory;
 use model::{Fault, Registers, Switches};
 
@@ -71,7 +72,7 @@ impl<M: Memory> Mapped<'_, M> {
         ensures { Performs M.Memory.cells self.old self.new result (effective self.old.map.now.switches r.now word) }
     {
         let first = first_of(r, word);
-        if bits(word, 10, 1) == 1 {
+        if is_one(5, word) {
             self.resolve(first, limit_of(self.map.switches))
         } else {
             Ok(first)

@@ -13,28 +13,28 @@ fn replaced(word: u16, digit: u16) -> u16
     word - low(word, 4) + low(digit, 4)
 }
 
-/// The digit of `s` and the carry added to the digit of `d`; a sum over 9 carries.
-pub fn add_digit(carry: bool, s: u16, d: u16) -> Wide
-    ensures { result ≡ digit_added carry s d }
+/// The digit of `s` and the carry added to the digit of the word; a sum over 9 carries.
+pub fn add_digit(s: u16, d: Wide) -> Wide
+    ensures { result ≡ digit_added d.carry s d.word }
 {
-    let sum = low(s, 4) + low(d, 4) + u16::from(carry);
+    let sum = low(s, 4) + low(d.word, 4) + u16::from(d.carry);
     let over = sum > 9;
     Wide {
         carry: over,
-        word: replaced(d, if over { sum + 6 } else { sum }),
+        word: replaced(d.word, if over { sum + 6 } else { sum }),
     }
 }
 
-/// The digit of `s`, and one more where there is no carry, subtracted from the digit of `d`;
+/// The digit of `s`, and one more where there is no carry, subtracted from the digit of the word;
 /// a difference below 0 leaves no carry.
-pub fn subtract_digit(carry: bool, s: u16, d: u16) -> Wide
-    ensures { result ≡ digit_subtracted carry s d }
+pub fn subtract_digit(s: u16, d: Wide) -> Wide
+    ensures { result ≡ digit_subtracted d.carry s d.word }
 {
     // 16 more than the difference
-    let raised = 15 + low(d, 4) + u16::from(carry) - low(s, 4);
+    let raised = 15 + low(d.word, 4) + u16::from(d.carry) - low(s, 4);
     let enough = raised >= 16;
     Wide {
         carry: enough,
-        word: replaced(d, if enough { raised } else { raised + 10 }),
+        word: replaced(d.word, if enough { raised } else { raised + 10 }),
     }
 }

@@ -90,11 +90,12 @@ fn places(n: u16) -> u32
 pub fn shift<T: LogicalShift>(count: u16, x: T) -> T
     ensures { result ≡ T.of_number (shifted_by_signed T.width (count % 256) (T.number_of x)) }
 {
-    let n = u32::from(low(count, 8));
-    if n < 128 {
-        x.shifted_left(n)
+    let n = (low(count, 8) as u8).cast_signed();
+    let places = u32::from(n.unsigned_abs());
+    if n < 0 {
+        x.shifted_right(places)
     } else {
-        x.shifted_right(256 - n)
+        x.shifted_left(places)
     }
 }
 

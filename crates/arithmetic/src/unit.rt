@@ -4,6 +4,7 @@ ghost use Rattle.std.specs.Prelude.{◌≡◌, ◌+◌, ◌/◌, ◌%◌};
 ghost use Rattle.arithmetic.specs.Unit.{split, of_carry, computed, base_carry, shifted, skips_on, function_of, shift_of, base_of, skip_of, operated, skipping};
 
 use crate::fields::{bits, low};
+use crate::pointers::is_one;
 
 /// Carry and a word: a number of 17 bits.
 #[derive(Clone, Copy, PartialEq, Eq, Debug)]
@@ -61,9 +62,9 @@ impl Wide {
     fn sum(carry: bool, a: u16, b: u16) -> Wide
         ensures { result ≡ split (of_carry carry + a + b) }
     {
-        let word = a.wrapping_add(b);
+        let (word, over) = a.overflowing_add(b);
         Wide {
-            carry: carry != (word < a),
+            carry: carry != over,
             word,
         }
     }
@@ -128,7 +129,7 @@ impl Shift {
                 word: (x.word << 1) | u16::from(x.carry),
             },
             Shift::Right => Wide {
-                carry: low(x.word, 1) == 1,
+                carry: is_one(15, x.word),
                 word: (x.word >> 1) | (u16::from(x.carry) << 15),
             },
             Shift::Swap => Wide {
@@ -195,12 +196,12 @@ impl Skip {
     }
 }
 
-/// What a two-accumulator word makes of the carry, the source and the destination.
-pub fn operate(word: u16, carry: bool, s: u16, d: u16) -> Wide
-    ensures { result ≡ operated word carry s d }
+/// What a two-accumulator word makes of the source and of the destination with the carry.
+pub fn operate(word: u16, s: u16, d: Wide) -> Wide
+    ensures { result ≡ operated word d.carry s d.word }
 {
-    let carry = CarryBase::of(word).apply(carry);
-    let x = Function::of(word).apply(carry, s, d);
+    let carry = CarryBase::of(word).apply(d.carry);
+    let x = Function::of(word).apply(carry, s, d.word);
     Shift::of(word).apply(x)
 }
 

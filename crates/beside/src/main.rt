@@ -90,12 +90,12 @@ fn core(rt: &HostRuntime) -> anyhow::Result<PlainCore> {
 fn main(rt: HostRuntime) -> anyhow::Result<()> {
     let (mut alone, alone_a, _) = Machine::new(core(&rt)?);
     let (mut beside, beside_a, beside_b) = Machine::new(core(&rt)?);
-    let _ = strain(&mut alone);
-    let _ = strain(&mut beside);
+    strain(&mut alone)?;
+    strain(&mut beside)?;
     show(&rt, "tilt beside", tilt(&mut beside, beside_b))?;
     show(&rt, "strain alone", run_in_two(&mut alone, alone_a))?;
     show(&rt, "strain beside", run_in_two(&mut beside, beside_a))?;
     tell(&rt, compare(&mut alone, &mut beside, Who::A, &[0]))?;
-    let _ = beside.put(0o50, 0);
+    beside.put(0o50, 0)?;
     tell(&rt, compare(&mut alone, &mut beside, Who::A, &[0]))
 }

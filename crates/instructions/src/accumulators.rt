@@ -6,7 +6,7 @@ ghost use Rattle.addressing.specs.Mapped.{Performs};
 ghost use Rattle.model.specs.Step.{sourced, aimed, doubled};
 ghost use Rattle.model.specs.Step as step;
 
-use crate::registers::{Destination, destination_of, move_on, source_in, source_of};
+use crate::registers::{Destination, destination_of, move_on, skip_if, source_in, source_of};
 use addressing::mapped::Mapped;
 use arithmetic::counts::{add_leading_zeros, reset_leading_one};
 use arithmetic::fields::{bits, low};
@@ -43,8 +43,7 @@ pub(crate) fn compare<F: FnOnce(u16, u16) -> bool>(
     ensures { (b : Bool) × F.post holds (sourced r.old word) (aimed r.old word) b × ((result, r.new) ≡ step.skip_if b r.old) }
 {
     let skips = holds(source_in(r, word), u16::read(r, word));
-    move_on(r, if skips { 2 } else { 1 });
-    Outcome::Next
+    skip_if(r, skips)
 }
 
 pub(crate) fn xch(r: &mut Registers, word: u16) -> Outcome

@@ -7,11 +7,11 @@ ghost use Rattle.model.specs.Step as step;
 
 use crate::accumulators::{combine, compare, immediate, immediate_of, lrb, pass, xch};
 use crate::decode::decode;
-use crate::registers::{Destination, destination_of, move_on, source_in};
+use crate::registers::{Destination, destination_of, move_on, skip_if, source_in};
 use addressing::mapped::Mapped;
 use arithmetic::counts::{add_leading_zeros, add_ones};
 use arithmetic::digits::{add_digit, subtract_digit};
-use arithmetic::fields::{bits, low};
+use arithmetic::pointers::is_one;
 use arithmetic::shifts::{Double, hex_left, hex_right, shift};
 use arithmetic::signed::{halve, is_at_least, is_greater};
 use arithmetic::unit::{Wide, operate, skips};
@@ -47,8 +47,7 @@ fn count<M: Memory>(
     let at = m.find(r, word)?;
     let n = m.fetch(at)?.wrapping_add(by);
     m.put(at, n)?;
-    move_on(r, if n == 0 { 2 } else { 1 });
-    Ok(Outcome::Next)
+    Ok(skip_if(r, n == 0))
 }
 
 fn lda<M: Memory>(m: &mut Mapped<'_, M>, r: &mut Registers, word: u16) -> Result<Outcome, Fault>
@@ -72,13 +71,12 @@ fn sta<M: Memory>(m: &mut Mapped<'_, M>, r: &mut Registers, word: u16) -> Result
 fn two(r: &mut Registers, word: u16) -> Outcome
     ensures { (result, r.new) ≡ step.two_accumulator r.old word }
 {
-    let x = operate(word, r.carry, source_in(r, word), u16::read(r, word));
-    if bits(word, 3, 1) == 0 {
+    let x = operate(word, source_in(r, word), Wide::read(r, word));
+    if !is_one(12, word) {
         r.ac[destination_of(word)] = x.word;
         r.carry = x.carry;
     }
-    move_on(r, if skips(word, x) { 2 } else { 1 });
-    Outcome::Next
+    skip_if(r, skips(word, x))
 }
 
 // The supervisor is called; the PC stands behind the word.
@@ -110,8 +108,8 @@ fn execute<M: Memory>(
         Operation::TwoAccumulator => two(r, word),
         Operation::Adi => combine(r, word, |_, d: u16| d.wrapping_add(n + 1)),
         Operation::Sbi => combine(r, word, |_, d: u16| d.wrapping_sub(n + 1)),
-        Operation::Dad => combine(r, word, |s, x: Wide| add_digit(x.carry, s, x.word)),
-        Operation::Dsb => combine(r, word, |s, x: Wide| subtract_digit(x.carry, s, x.word)),
+        Operation::Dad => combine(r, word, add_digit),
+        Operation::Dsb => combine(r, word, subtract_digit),
         Operation::Ior => combine(r, word, |s, d: u16| s | d),
         Operation::Xor => combine(r, word, |s, d: u16| s ^ d),
         Operation::Anc => combine(r, word, |s, d: u16| !s & d),

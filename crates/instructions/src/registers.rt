@@ -5,7 +5,7 @@ ghost use Rattle.std.specs.Prelude.{◌≡◌, ℕ, ◌<◌};
 ghost use Rattle.model.specs.Address.{moved};
 ghost use Rattle.model.specs.declared.steps.Outcome.{Outcome};
 ghost use Rattle.model.specs.declared.user.Registers.{Registers};
-ghost use Rattle.model.specs.Step.{source, destination, sourced, aimed, loaded_with, wide, with_wide, doubled, with_double};
+ghost use Rattle.model.specs.Step.{source, destination, skip_if as skipping_if, sourced, aimed, loaded_with, wide, with_wide, doubled, with_double};
 
 use arithmetic::fields::{bits, low};
 use arithmetic::shifts::Double;
@@ -37,6 +37,14 @@ pub(crate) fn move_on(r: &mut Registers, by: u16)
     ensures { r.new ≡ moved r.old by }
 {
     r.pc = low(r.pc.wrapping_add(by), 15);
+}
+
+/// The next word is skipped where `skips` holds.
+pub(crate) fn skip_if(r: &mut Registers, skips: bool) -> Outcome
+    ensures { (result, r.new) ≡ skipping_if skips r.old }
+{
+    move_on(r, if skips { 2 } else { 1 });
+    Outcome::Next
 }
 
 /// What an instruction finds at its destination and leaves there.

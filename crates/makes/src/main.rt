@@ -75,15 +75,17 @@ fn plain(heap: Global, size: usize) -> anyhow::Result<PlainCore> {
     Ok(PlainCore::new(vec![in heap; 0u16; size]?)?)
 }
 
-// Zeros, each with another one of its 21 positions turned over.
-fn flawed(heap: Global) -> Result<Vec<u32>, AllocError> {
-    (0..SIZE).map(|k| encode(0) ^ 1 << (k % 21)).collect(heap)
+// Zeros, each with the positions turned over that a function of its address tells.
+fn flawed<F: Fn(usize) -> u32>(heap: Global, flaw: F) -> Result<Vec<u32>, AllocError>
+    requires { F.IsAlwaysCallable flaw }
+{
+    (0..SIZE).map(|k| encode(0) ^ flaw(k)).collect(heap)
 }
 
 fn main(rt: HostRuntime) -> anyhow::Result<()> {
     let heap = rt.alloc();
     let (mut one, one_a, _) = Machine::new(plain(heap, SIZE)?);
-    let (mut two, two_a, _) = Machine::new(CheckedCore::new(flawed(heap)?)?);
+    let (mut two, two_a, _) = Machine::new(CheckedCore::new(flawed(heap, |k| 1 << (k % 21))?)?);
     let halves = Pair::new(plain(heap, SIZE / 4)?, plain(heap, SIZE / 4)?)?;
     let (mut three, three_a, _) = Machine::new(Pair::new(halves, plain(heap, SIZE / 2)?)?);
     tell(&rt, "plain", carry_out(&mut one, one_a))?;
@@ -99,13 +101,6 @@ fn main(rt: HostRuntime) -> anyhow::Result<()> {
     Ok(())
 }
 
-// Zeros with one number spoiled: positions 10 and 17 of cell 060 are turned over.
-fn spoiled_numbers(heap: Global) -> Result<Vec<u32>, AllocError> {
-    (0..SIZE)
-        .map(|k| encode(0) ^ if k == 0o60 { 66048 } else { 0 })
-        .collect(heap)
-}
-
 // LDA 0,.-20 in block 0, which A has as its logical block 1.
 fn read_one<M: Memory>(machine: &mut Machine<M>, held: Held) -> Result<Told, Denial> {
     machine.map(0o3000)?;
@@ -114,11 +109,13 @@ fn read_one<M: Memory>(machine: &mut Machine<M>, held: Held) -> Result<Told, Den
 }
 
 fn spoiled(rt: &HostRuntime) -> anyhow::Result<()> {
-    let (mut machine, a, _) = Machine::new(CheckedCore::new(spoiled_numbers(rt.alloc())?)?);
+    // Positions 10 and 17 of cell 060 are turned over.
+    let numbers = flawed(rt.alloc(), |k| if k == 0o60 { 66048 } else { 0 })?;
+    let (mut machine, a, _) = Machine::new(CheckedCore::new(numbers)?);
     tell(rt, "spoiled", read_one(&mut machine, a))?;
     let mut core = machine.end();
     let before = survey(&mut core);
-    let _ = core.write(0o60, 7);
+    core.write(0o60, 7).map_err(Denial::from)?;
     let after = survey(&mut core);
     println!(rt; "survey: {before:?}, and after a write there: {after:?}")?;
     Ok(())

@@ -34,6 +34,9 @@ pub fn open_sheet(sheet: &[u8]) -> Option<&[u8]>
     after_word(sheet, FIRST_LINE)
 }
 
+// Each reader answers what it took and what follows it. A cursor that they moved would be no plainer: it would have to be
+// said what it is left at where a reader refuses.
+
 /// An octal digit, and what follows it.
 #[tactic(auto, unfolding(crate::specs::Read::digit))]
 fn read_digit(text: &[u8]) -> Option<(u16, &[u8])>

@@ -99,27 +99,20 @@ impl<M: Memory> Desk<M> {
         ensures { (result.0, modelled M.Memory.cells result.1.machine) ≡ carried_out (modelled M.Memory.cells self.machine) row }
     {
         let Desk { mut machine, a, b } = self;
-        match row {
-            Row::Map(word) => {
-                let outcome = map_row(&mut machine, word);
-                (outcome, Desk { machine, a, b })
-            }
-            Row::Put { at, word } => {
-                let outcome = put_row(&mut machine, at, word);
-                (outcome, Desk { machine, a, b })
-            }
+        let (outcome, (a, b)) = match row {
+            Row::Map(word) => (map_row(&mut machine, word), (a, b)),
+            Row::Put { at, word } => (put_row(&mut machine, at, word), (a, b)),
             Row::Start { user, at } => {
                 let (own, other) = own_first(user, a, b);
                 let (outcome, own) = start_row(&mut machine, user, own, at);
-                let (a, b) = own_first(user, own, other);
-                (outcome, Desk { machine, a, b })
+                (outcome, own_first(user, own, other))
             }
             Row::Run { user, budget } => {
                 let (own, other) = own_first(user, a, b);
                 let (outcome, own) = run_row(&mut machine, user, own, budget);
-                let (a, b) = own_first(user, own, other);
-                (outcome, Desk { machine, a, b })
+                (outcome, own_first(user, own, other))
             }
-        }
+        };
+        (outcome, Desk { machine, a, b })
     }
 }

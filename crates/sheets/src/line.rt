@@ -1,6 +1,7 @@
 ghost use Rattle.std.specs.Prelude.{◌≡◌, ℕ, Some};
 ghost use Rattle.sheets.specs.Lines.{quiet as quiet_row, numbers as line_numbers, line_bytes};
 
+use model::stop::latest_stop;
 use model::{Denial, Registers, Stop};
 use std::fmt;
 use writing::OctalLine;
@@ -40,7 +41,7 @@ impl Line {
             Ok(granted) => (0, granted),
             Err(reason) => (reason.number(), quiet()),
         };
-        let stop = granted.stop.map_or(0, |stop| stop.values().reason);
+        let stop = latest_stop(granted.stop).reason;
         let Registers {
             ac: [ac0, ac1, ac2, ac3],
             carry,

@@ -166,6 +166,7 @@ fn agrees(rt: &HostRuntime, terms: Terms, case: &Case) -> anyhow::Result<bool> {
 fn try_group(rt: &HostRuntime, group: &Group) -> anyhow::Result<Tally> {
     let terms = Terms::of(&group.name);
     let mut agreed = 0usize;
+    // A loop, here and over the groups: what goes wrong in one ends it with an error.
     for case in &group.cases {
         if agrees(rt, terms, case)? {
             agreed = agreed.saturating_add(1);

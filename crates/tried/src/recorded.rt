@@ -136,8 +136,7 @@ fn add_line(heap: Global, groups: &mut Vec<Group>, line: usize, text: &str) -> a
 /// The groups of a text, in its order. The first malformed line is an error that names it.
 pub(crate) fn read_groups(heap: Global, text: &str) -> anyhow::Result<Vec<Group>> {
     let mut groups = Vec::new(heap);
-    for (index, text) in text.lines().enumerate() {
-        let line = index.saturating_add(1);
+    for (line, text) in (1usize..).zip(text.lines()) {
         add_line(heap, &mut groups, line, text).map_err(|fault| anyhow!(
             "line {line} of steps.txt: {fault}"
         ))?;
