@@ -11,4 +11,4 @@ pub mod size;
 pub use fault::{MemoryFault, WrongSize};
 pub use meaning::Memory;
 pub use plain::PlainCore;
-pub use size::{whole_blocks, is_whole};
+pub use size::{is_whole, whole_blocks};

@@ -10,7 +10,7 @@ use crate::desk::Desk;
 use crate::line::{Granted, quiet};
 use machine::{Denied, Machine, Permit};
 use memory::Memory;
-use model::{Denial, Registers, Who};
+use model::{Denial, Ran, Registers, Who};
 use reading::Row;
 
 fn map_row<M: Memory>(machine: &mut Machine<M>, word: u16) -> Result<Granted, Denial>
@@ -72,8 +72,10 @@ fn run_row<M: Memory>(
     match machine.run(ready, budget) {
         Ok(ended) => {
             let granted = Granted {
-                stop: Some(ended.stop),
-                steps: ended.steps,
+                ran: Some(Ran {
+                    steps: ended.steps,
+                    stop: ended.stop,
+                }),
                 registers: machine.show(who).registers,
             };
             (Ok(granted), ended.permit)

@@ -1,16 +1,14 @@
 ghost use Rattle.std.specs.Prelude.{◌≡◌, ℕ, Some};
 ghost use Rattle.sheets.specs.Lines.{quiet as quiet_row, numbers as line_numbers, line_bytes};
 
-use model::stop::latest_stop;
-use model::{Denial, Registers, Stop};
+use model::{Denial, Ran, Registers};
 use std::fmt;
 use writing::OctalLine;
 
-/// What a granted row shows after its answer 0: how its run ended, the steps of the run, and its user's registers.
+/// What a granted row shows after its answer 0: what its run made, if it is one, and its user's registers.
 #[derive(Clone, Copy)]
 pub(crate) struct Granted {
-    pub stop: Option<Stop>,
-    pub steps: u16,
+    pub ran: Option<Ran>,
     pub registers: Registers,
 }
 
@@ -19,8 +17,7 @@ pub(crate) fn quiet() -> Granted
     ensures { result ≡ quiet_row }
 {
     Granted {
-        stop: None,
-        steps: 0,
+        ran: None,
         registers: Registers::at(0),
     }
 }
@@ -41,7 +38,9 @@ impl Line {
             Ok(granted) => (0, granted),
             Err(reason) => (reason.number(), quiet()),
         };
-        let stop = latest_stop(granted.stop).reason;
+        let (reason, steps) = granted
+            .ran
+            .map_or((0, 0), |ran| (ran.stop.values().reason, ran.steps));
         let Registers {
             ac: [ac0, ac1, ac2, ac3],
             carry,
@@ -49,8 +48,8 @@ impl Line {
         } = granted.registers;
         [
             u16::from(answer),
-            u16::from(stop),
-            granted.steps,
+            u16::from(reason),
+            steps,
             pc,
             ac0,
             ac1,
