@@ -2,10 +2,11 @@
 use Rattle.std.proofs.Common.{◌≡◌, ℕ, zero, suc, ◌+◌, ◌-◌, ◌*◌, ◌/◌, ◌%◌, ◌^◌, ◌<◌, ◌≤◌, cond, eqb, ltb, sym, refl, ap, ◌∙◌, subst, ap₂, le_trans, lt_of_le_of_lt, mul-le-mul_right, mod-lt, mod-eq_of_lt, pow-suc, arith, lit<, eqb-true, ltb-true, true, pow_pos}
 use native.Mathlib.Nat.{mod-le}
 use lib.Pow.{shl-shr, field, mod-mod-pow}
-use lib.Bits.{bit_and, bit_xor, xor_self, xor_zero_r, xor_assoc, xor_lt, and_le_r}
+use lib.Bits.{and_mask, bit_and, bit_xor, xor_self, xor_zero_r, xor_assoc, xor_lt, and_le_r}
 use Rattle.std.specs.Int.{reverse_bits_onto}
+use Rattle.std.proofs.lemmas.Nat.{one_shl}
 use Rattle.std.proofs.lemmas.Bool.{agree_below_at, cond-false, ne_eqb}
-use Rattle.hamming.specs.Hamming.{held, syndrome_to, syndrome_of, bits_at, word_in, flipped, mended, MendedSound, FlipFound}
+use Rattle.hamming.specs.Hamming.{held, syndrome_to, syndrome_of, bits_at, word_in, flipped, mended, FlipFound}
 use Rattle.hamming.proofs.Linear.{syndrome_xor, word_xor}
 use Rattle.hamming.proofs.Agree.{Linear, agree}
 use Rattle.hamming.proofs.Spread.{left, right, whole, join, after, reversed, words}
@@ -141,9 +142,6 @@ module _ (n : ℕ) (h : syndrome_of n < 22) where
       subst (λ (x : ℕ). x < 2 ^ 21) (sym (mended_rule n))
       (xor_lt 21 (n % 2 ^ 21) (2 ^ syndrome_of n / 2) (mod-lt n (pow_pos 21)) (flip_lt (syndrome_of n) h))
 
-pub sound_mended : MendedSound
-sound_mended n h = (mended_syndrome n h, mended_lt n h)
-
 -- a sound number with no higher bits is its own mending
 pub mended_same : (m : ℕ) → syndrome_of m ≡ 0 → m < 2 ^ 21 → mended m ≡ m
 mended_same m e l =
@@ -172,3 +170,16 @@ flip_found n p l e low high =
     let h : p < 22 = omega arith in
     let at : bit_xor n (2 ^ (p - 1)) ≡ bit_xor n (2 ^ p / 2) = ap (bit_xor n) (sym (flip_weight p low)) in
     (ap syndrome_of at ∙ flip_of_syndrome n p l e h, ap mended at ∙ flip_of_mended n p l e h)
+
+-- ---- the mended number by the code's mask and shift
+
+pub mended_whole : (n : ℕ) → syndrome_of n ≡ 0 → mended n ≡ bit_and n 0x1fffff
+unfolding mended
+mended_whole n e = let low = and_mask n 21 in grind (arith, low)
+
+pub mended_part : (n : ℕ) → 1 ≤ syndrome_of n → syndrome_of n < 22 → mended n ≡ bit_xor (bit_and n 0x1fffff) ((1 * 2 ^ (syndrome_of n - 1)) % 2 ^ 32)
+unfolding mended
+mended_part n h l =
+    let low = and_mask n 21 in
+    let one : (1 * 2 ^ (syndrome_of n - 1)) % 2 ^ 32 ≡ 2 ^ (syndrome_of n - 1) = one_shl (syndrome_of n - 1) 32 (omega arith) in
+    grind (arith, low, one)

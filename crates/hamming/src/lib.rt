@@ -24,19 +24,17 @@ pub fn syndrome(n: u32) -> u32
 }
 
 /// The number with no higher bits and the position that its syndrome names turned over, unless it is spoiled.
+#[tactic(auto, using(crate::proofs::Codes::mended_syndrome, crate::proofs::Codes::mended_lt, crate::proofs::Codes::flip_found, crate::proofs::Codes::mended_whole, crate::proofs::Codes::mended_part))]
 pub fn mend(n: u32) -> Option<u32>
     ensures answer { SomeIff result (syndrome_of n < 22) (mended n) }
     ensures sound { MendedSound }
     ensures flip { FlipFound }
 {
-    let s = syndrome(n);
     let lower = n & 0x1f_ffff;
-    if s == 0 {
-        Some(lower)
-    } else if s < SPOILED {
-        Some(lower ^ 1 << (s - 1))
-    } else {
-        None
+    match syndrome(n) {
+        0 => Some(lower),
+        s @ 1..SPOILED => Some(lower ^ 1 << (s - 1)),
+        _ => None,
     }
 }
 

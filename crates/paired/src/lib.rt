@@ -56,9 +56,6 @@ impl<F: Memory, S: Memory> Memory for Pair<F, S> {
     }
 
     fn read(&mut self, at: usize) -> Result<u16, MemoryFault> {
-        if at >= self.size() {
-            return Err(MemoryFault::Range);
-        }
         if at % 2 == 0 {
             self.first.read(at / 2)
         } else {
@@ -67,9 +64,6 @@ impl<F: Memory, S: Memory> Memory for Pair<F, S> {
     }
 
     fn write(&mut self, at: usize, value: u16) -> Result<(), MemoryFault> {
-        if at >= self.size() {
-            return Err(MemoryFault::Range);
-        }
         if at % 2 == 0 {
             self.first.write(at / 2, value)
         } else {
