@@ -1,8 +1,9 @@
 -- What a call answers, as the rules have it.
-use Rattle.std.specs.Prelude.{◌≡◌, ℕ, Ok, Err, Result}
+use Rattle.std.specs.Prelude.{◌≡◌, ℕ, Bool, true, Some, None, Option, Ok, Err, Result}
 use Rattle.model.specs.declared.denial.Denial.{Denial}
 use Rattle.model.specs.declared.steps.Ran.{Ran}
 use Rattle.model.specs.declared.user.Kind.TheVariants.{Held, Ready}
+use Rattle.model.specs.declared.user.Page.{Page}
 use Rattle.model.specs.declared.user.Who.{Who}
 use Rattle.model.specs.Machine.{Answer, denied, refused, granted, got, permit, ran, kind_after, Sense, of, Deed, State, carried}
 use Rattle.machine.specs.declared.setting.Setting.{Setting}
@@ -16,9 +17,18 @@ abbrev pub read : Result ℕ Denial → Answer
 read (Ok w) = got w
 read (Err e) = denied e
 
+-- a page as a block word has it: no block is block 127 with the protect bit
+abbrev pub protected_in : Option Page → Bool
+protected_in None = true
+protected_in (Some p) = p.protected
+
+abbrev pub block_in : Option Page → ℕ
+block_in None = 127
+block_in (Some p) = p.block
+
 -- what a map word sets
 abbrev pub meant : Who × Setting → Sense
-meant (who, Entry e) = of who (Deed.block e.logical e.protected e.block)
+meant (who, Entry e) = of who (Deed.block e.logical (protected_in e.page) (block_in e.page))
 meant (who, Switches s) = of who (Deed.status s)
 
 -- a map word, read: what it sets; or a denial, which it then meets in any state

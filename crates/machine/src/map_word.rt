@@ -1,13 +1,14 @@
 //! Map words. Bit 0 is the highest of the sixteen.
 
-ghost use Rattle.std.specs.Prelude.{◌≡◌, ℕ, ◌%◌, not, ◌||◌, ◌==◌};
+ghost use Rattle.std.specs.Prelude.{◌≡◌, ℕ, ◌%◌, not, ◌||◌, ◌&&◌, ◌==◌, false};
+ghost use Rattle.std.specs.Option.{SomeIff};
 ghost use Rattle.model.specs.Machine.{sense_of_word, user_by_bit, bit as bit_of};
 ghost use Rattle.machine.specs.Calls.{ReadsMapWord};
 
 use crate::setting::{Entry, Setting};
 use arithmetic::fields::{bits, low};
 use arithmetic::pointers::is_one;
-use model::{Denial, Switches, Who};
+use model::{Denial, Page, Switches, Who};
 
 // No `From<bool>`: in a map word alone does a bit stand for a user.
 fn user_by(b: bool) -> Who
@@ -30,15 +31,29 @@ fn is_unlisted(w: u16) -> bool
     is_one(10, w) || low(w, 3) != 0
 }
 
+// Block 127 with the protect bit means no block.
+fn real_page(page: Page) -> Option<Page>
+    ensures { SomeIff result ((page.protected && page.block == 127) ≡ false) page }
+{
+    if page.protected && page.block == 127 {
+        None
+    } else {
+        Some(page)
+    }
+}
+
 /// Reads a map word. Bit 0 is ignored, and in a status word also bits 3-5 and 8.
 pub(crate) fn read_map_word(w: u16) -> Result<(Who, Setting), Denial>
     ensures { ReadsMapWord result (sense_of_word w) }
 {
     if is_one(6, w) {
+        let page = Page {
+            block: low(w, 7) as u8,
+            protected: is_one(8, w),
+        };
         let entry = Entry {
             logical: usize::from(bits(w, 10, 5)),
-            protected: is_one(8, w),
-            block: low(w, 7) as u8,
+            page: real_page(page),
         };
         return Ok((user_by(is_one(7, w)), Setting::Entry(entry)));
     }

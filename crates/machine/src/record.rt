@@ -5,32 +5,25 @@ ghost use Rattle.memory.specs.Cells.{Row};
 ghost use Rattle.model.specs.Machine.{mapped, started, run_by, kind_after};
 ghost use Rattle.model.specs.declared.user.Who.{Who};
 ghost use Rattle.model.specs.Laws.{Acts};
-ghost use Rattle.machine.specs.Calls.{answered, after_start, after_run};
+ghost use Rattle.machine.specs.Calls.{answered, protected_in, block_in, after_start, after_run};
 
 use crate::setting::Entry;
 use memory::Memory;
-use model::{Denial, Kind, Page, Ran, Registers, Stop, User};
+use model::{Denial, Kind, Ran, Registers, Stop, User};
 use processor::run::run_steps;
 
-/// Sets an entry. Block 127 with the protect bit means no block; any other block has to be in the memory.
+/// Sets an entry. The block that it leads to has to be in the memory.
 pub(crate) fn assign<M: Memory>(user: &mut User, memory: &M, entry: Entry) -> Result<(), Denial>
-    ensures { Acts (mapped (M.Memory.cells memory.now) user.old entry.logical entry.protected entry.block) (answered result) user.new (M.Memory.cells memory.now) }
+    ensures { Acts (mapped (M.Memory.cells memory.now) user.old entry.logical (protected_in entry.page) (block_in entry.page)) (answered result) user.new (M.Memory.cells memory.now) }
 {
-    let Entry {
-        logical,
-        protected,
-        block,
-    } = entry;
-    if protected && block == 127 {
-        user.map.entries[logical] = None;
-        return Ok(());
+    let Entry { logical, page } = entry;
+    if let Some(page) = page {
+        if usize::from(page.block) >= memory.size() / 1024 {
+            return Err(Denial::Block);
+        }
     }
-    if usize::from(block) < memory.size() / 1024 {
-        user.map.entries[logical] = Some(Page { block, protected });
-        Ok(())
-    } else {
-        Err(Denial::Block)
-    }
+    user.map.entries[logical] = page;
+    Ok(())
 }
 
 /// Starts the user. The kind of the record is tested before the PC.

@@ -1,7 +1,7 @@
 use Rattle.std.proofs.Common.{◌≡◌, sym, refl, ap, ◌∙◌, rules}
 use Rattle.model.specs.Machine.{map, Deed, Answer, State, denied}
 use Rattle.model.proofs.Pasts.{made}
-use Rattle.machine.specs.Calls.{answered, meant}
+use Rattle.machine.specs.Calls.{answered, protected_in, block_in, meant}
 use Rattle.machine.specs.Machine.{modelled}
 use Rattle.machine.specs.declared.setting.Setting.{Setting}
 use Rattle.machine.proofs.Answered.{user_did}
@@ -17,7 +17,7 @@ pub returns-in-Entry : goal.returns-in-Entry
 returns-in-Entry g c =
     let entry = c.in-Entry.entry in
     made _ _ _ _
-    (user_did c.args.self.now.users _ _ (map c.args.word) c.in_ok-who.who (Deed.block entry.logical entry.protected entry.block) _ _ _
+    (user_did c.args.self.now.users _ _ (map c.args.word) c.in_ok-who.who (Deed.block entry.logical (protected_in entry.page) (block_in entry.page)) _ _ _
     (ap (λ (s : Setting). meant (c.in_ok-who.who, s)) (sym c.in-Entry.is) ∙ c.in_ok-who.ensures) c.of_mut-user.ensures.value c.assign.ensures)
 
 pub returns-in-Switches : goal.returns-in-Switches
