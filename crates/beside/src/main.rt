@@ -60,6 +60,7 @@ fn tilt<M: Memory>(machine: &mut Machine<M>, held: Held) -> Result<Ended, Denial
 fn show(rt: &HostRuntime, name: &str, ended: Result<Ended, Denial>) -> anyhow::Result<()> {
     match ended {
         Ok(Ended { steps, stop, .. }) => {
+            // Three of its six numbers, where `Display` would tell all.
             let StopValues {
                 reason,
                 address,

@@ -6,6 +6,7 @@ use Rattle.model.specs.declared.user.Kind.TheVariants.{Held, Ready}
 use Rattle.model.specs.declared.user.Page.{Page}
 use Rattle.model.specs.declared.user.Who.{Who}
 use Rattle.model.specs.Machine.{Answer, denied, refused, granted, got, permit, ran, kind_after, Sense, of, Deed, State, carried}
+use Rattle.machine.specs.declared.map_word.MapWord.{MapWord}
 use Rattle.machine.specs.declared.setting.Setting.{Setting}
 use Rattle.machine.specs.declared.setting.Setting.TheVariants.{Entry, Switches}
 
@@ -27,12 +28,15 @@ block_in None = 127
 block_in (Some p) = p.block
 
 -- what a map word sets
-abbrev pub meant : Who × Setting → Sense
-meant (who, Entry e) = of who (Deed.block e.logical (protected_in e.page) (block_in e.page))
-meant (who, Switches s) = of who (Deed.status s)
+abbrev pub set_by : Who → Setting → Sense
+set_by who (Entry e) = of who (Deed.block e.logical (protected_in e.page) (block_in e.page))
+set_by who (Switches s) = of who (Deed.status s)
+
+abbrev pub meant : MapWord → Sense
+meant x = set_by x.who x.setting
 
 -- a map word, read: what it sets; or a denial, which it then meets in any state
-abbrev pub ReadsMapWord : Result (Who × Setting) Denial → Sense → Type 0
+abbrev pub ReadsMapWord : Result MapWord Denial → Sense → Type 0
 ReadsMapWord (Ok x) m = meant x ≡ m
 ReadsMapWord (Err e) m = (s : State) → carried s m ≡ (denied e, s)
 

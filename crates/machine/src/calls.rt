@@ -7,7 +7,7 @@ ghost use Rattle.machine.specs.Calls.{answered, read as got};
 ghost use Rattle.model.specs.Programs.{Lawful};
 ghost use Rattle.machine.specs.Machine.{modelled, Makes, seen, who_of, kind_of, begun, ran_on};
 
-use crate::map_word::read_map_word;
+use crate::map_word::MapWord;
 use crate::permit::{Denied, Held, Permit, Ready};
 use crate::record::{assign, begin, carry_on, kind_left_by};
 use crate::setting::Setting;
@@ -112,7 +112,7 @@ impl<M: Memory> Machine<M> {
     pub fn map(&mut self, word: u16) -> Result<(), Denial>
         ensures { Makes M.Memory.cells self.old (mapping word) (answered result) self.new }
     {
-        let (who, setting) = read_map_word(word)?;
+        let MapWord { who, setting } = MapWord::try_from(word)?;
         let user = self.users.of_mut(who);
         match setting {
             Setting::Entry(entry) => assign(user, &self.memory, entry),

@@ -42,28 +42,45 @@ fn real_page(page: Page) -> Option<Page>
     }
 }
 
-/// Reads a map word. Bit 0 is ignored, and in a status word also bits 3-5 and 8.
-pub(crate) fn read_map_word(w: u16) -> Result<(Who, Setting), Denial>
-    ensures { ReadsMapWord result (sense_of_word w) }
-{
-    if is_one(6, w) {
-        let page = Page {
-            block: low(w, 7) as u8,
-            protected: is_one(8, w),
+/// A map word: whose it is, and what it sets.
+#[derive(Clone, Copy)]
+pub(crate) struct MapWord {
+    pub(crate) who: Who,
+    pub(crate) setting: Setting,
+}
+
+/// Bit 0 is ignored, and in a status word also bits 3-5 and 8.
+impl TryFrom<u16> for MapWord {
+    type Error = Denial;
+
+    ghost try_from_gives = { λ w r. ReadsMapWord r (sense_of_word w) };
+
+    fn try_from(w: u16) -> Result<MapWord, Denial> {
+        if is_one(6, w) {
+            let page = Page {
+                block: low(w, 7) as u8,
+                protected: is_one(8, w),
+            };
+            let entry = Entry {
+                logical: usize::from(bits(w, 10, 5)),
+                page: real_page(page),
+            };
+            return Ok(MapWord {
+                who: user_by(is_one(7, w)),
+                setting: Setting::Entry(entry),
+            });
+        }
+        if is_wordless(w) || is_unlisted(w) {
+            return Err(Denial::BadOption);
+        }
+        let switches = Switches {
+            lef: is_one(9, w),
+            write: is_one(11, w),
+            indirect: is_one(12, w),
         };
-        let entry = Entry {
-            logical: usize::from(bits(w, 10, 5)),
-            page: real_page(page),
-        };
-        return Ok((user_by(is_one(7, w)), Setting::Entry(entry)));
+        Ok(MapWord {
+            who: user_by(is_one(2, w)),
+            setting: Setting::Switches(switches),
+        })
     }
-    if is_wordless(w) || is_unlisted(w) {
-        return Err(Denial::BadOption);
-    }
-    let switches = Switches {
-        lef: is_one(9, w),
-        write: is_one(11, w),
-        indirect: is_one(12, w),
-    };
-    Ok((user_by(is_one(2, w)), Setting::Switches(switches)))
 }

@@ -45,6 +45,10 @@ fn next<'a>(words: &mut SplitWhitespace<'a>) -> anyhow::Result<&'a str> {
     words.next().context("too few numbers")
 }
 
+fn next_octal(words: &mut SplitWhitespace<'_>) -> anyhow::Result<u16> {
+    read_octal(next(words)?)
+}
+
 fn read_carry(text: &str) -> anyhow::Result<bool> {
     match text {
         "0" => Ok(false),
@@ -58,10 +62,10 @@ fn read_registers(mut words: SplitWhitespace<'_>) -> anyhow::Result<Registers> {
     let registers = Registers {
         pc: read_address(next(&mut words)?)?,
         ac: [
-            read_octal(next(&mut words)?)?,
-            read_octal(next(&mut words)?)?,
-            read_octal(next(&mut words)?)?,
-            read_octal(next(&mut words)?)?,
+            next_octal(&mut words)?,
+            next_octal(&mut words)?,
+            next_octal(&mut words)?,
+            next_octal(&mut words)?,
         ],
         carry: read_carry(next(&mut words)?)?,
     };
@@ -84,6 +88,7 @@ fn cut_at_bar(text: &str) -> anyhow::Result<(&str, &str)> {
     text.split_once('|').context("no bar before the cells")
 }
 
+// What stands after the arrow.
 fn read_after(heap: Global, text: &str) -> anyhow::Result<State> {
     let (numbers, changed) = cut_at_bar(text)?;
     let registers = read_registers(numbers.split_whitespace())?;
@@ -96,9 +101,9 @@ fn read_case(heap: Global, line: usize, text: &str) -> anyhow::Result<Case> {
     let (before, after) = text.split_once("->").context("no arrow")?;
     let (numbers, named) = cut_at_bar(before)?;
     let mut words = numbers.split_whitespace();
-    let steps = read_octal(next(&mut words)?)?;
-    let word = read_octal(next(&mut words)?)?;
-    let second = read_octal(next(&mut words)?)?;
+    let steps = next_octal(&mut words)?;
+    let word = next_octal(&mut words)?;
+    let second = next_octal(&mut words)?;
     let registers = read_registers(words)?;
     let mut cells = Vec::new(heap);
     cells.push((registers.pc, word))?;

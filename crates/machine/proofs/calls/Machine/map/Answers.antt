@@ -1,9 +1,8 @@
 use Rattle.std.proofs.Common.{◌≡◌, sym, refl, ap, ◌∙◌, rules}
 use Rattle.model.specs.Machine.{map, Deed, Answer, State, denied}
 use Rattle.model.proofs.Pasts.{made}
-use Rattle.machine.specs.Calls.{answered, protected_in, block_in, meant}
+use Rattle.machine.specs.Calls.{answered, protected_in, block_in}
 use Rattle.machine.specs.Machine.{modelled}
-use Rattle.machine.specs.declared.setting.Setting.{Setting}
 use Rattle.machine.proofs.Answered.{user_did}
 use Rattle.machine.proofs.calls.Machine.map.Goals as goal
 
@@ -17,12 +16,12 @@ pub returns-in-Entry : goal.returns-in-Entry
 returns-in-Entry g c =
     let entry = c.in-Entry.entry in
     made _ _ _ _
-    (user_did c.args.self.now.users _ _ (map c.args.word) c.in_ok-who.who (Deed.block entry.logical (protected_in entry.page) (block_in entry.page)) _ _ _
-    (ap (λ (s : Setting). meant (c.in_ok-who.who, s)) (sym c.in-Entry.is) ∙ c.in_ok-who.ensures) c.of_mut-user.ensures.value c.assign.ensures)
+    (user_did c.args.self.now.users _ _ (map c.args.word) c.in_ok-who.field-0.who (Deed.block entry.logical (protected_in entry.page) (block_in entry.page)) _ _ _
+    (search rules) c.of_mut-user.ensures.value c.assign.ensures)
 
 pub returns-in-Switches : goal.returns-in-Switches
 returns-in-Switches g c =
     made _ _ _ _
-    (user_did c.args.self.now.users _ _ (map c.args.word) c.in_ok-who.who (Deed.status c.in-Switches.switches) _ _ _
-    (ap (λ (s : Setting). meant (c.in_ok-who.who, s)) (sym c.in-Switches.is) ∙ c.in_ok-who.ensures) c.of_mut-user.ensures.value
+    (user_did c.args.self.now.users _ _ (map c.args.word) c.in_ok-who.field-0.who (Deed.status c.in-Switches.switches) _ _ _
+    (search rules) c.of_mut-user.ensures.value
     (record { answer = refl; user = refl; cells = refl }))

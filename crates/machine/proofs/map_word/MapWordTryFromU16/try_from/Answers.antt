@@ -2,7 +2,7 @@ use Rattle.std.proofs.Common.{arith}
 use Rattle.std.proofs.lemmas.Bool.Decides.{nat_tests}
 use Rattle.model.specs.Machine.{sense_of_word}
 use Rattle.machine.proofs.Answered.{unlisted}
-use Rattle.machine.proofs.map_word.read_map_word.Goals as goal
+use Rattle.machine.proofs.map_word.MapWordTryFromU16.try_from.Goals as goal
 
 pub returns-then-is_one : goal.returns-then-is_one
 unfolding sense_of_word
