@@ -36,6 +36,7 @@ fn jsr<M: Memory>(m: &mut Mapped<'_, M>, r: &mut Registers, word: u16) -> Result
 }
 
 // A word is counted up or down, by 1 or by 0177777, and the next one skipped where the count comes to 0.
+#[inline(always)]
 fn count<M: Memory>(
     m: &mut Mapped<'_, M>,
     r: &mut Registers,
