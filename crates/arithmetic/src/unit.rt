@@ -62,9 +62,9 @@ impl Wide {
     fn sum(carry: bool, a: u16, b: u16) -> Wide
         ensures { result ≡ split (of_carry carry + a + b) }
     {
-        let (word, over) = a.overflowing_add(b);
+        let word = a.wrapping_add(b);
         Wide {
-            carry: carry != over,
+            carry: carry != (word < a),
             word,
         }
     }

@@ -9,9 +9,8 @@
 use std::alloc::Global;
 use std::io::{Read, Write};
 
-// Writes the name of a case, and the report of its sheet.
-fn report(out: &mut impl Write, heap: Global, name: &[u8], sheet: &[u8]) -> anyhow::Result<()> {
-    out.write_all(name)?;
+// Writes the report of a sheet.
+fn report(out: &mut impl Write, heap: Global, sheet: &[u8]) -> anyhow::Result<()> {
     let report = sheets::report::carry_out(heap, sheet)?;
     out.write_all(report.as_bytes())?;
     Ok(())
@@ -28,15 +27,17 @@ fn main(rt: HostRuntime) -> anyhow::Result<()> {
         .filter(|line| line.ends_with(b"\n"));
     for line in lines {
         if line.starts_with(b"= ") {
-            if let Some(before) = name.replace(line) {
-                report(&mut out, rt.alloc(), before, &sheet)?;
+            if name.replace(line).is_some() {
+                report(&mut out, rt.alloc(), &sheet)?;
                 sheet.clear();
             }
+            // Before the sheet is gathered, for which the heap may not suffice.
+            out.write_all(line)?;
         } else if line == b"~\n".as_slice() {
             sheet.pop();
         } else {
             sheet.extend_from_slice(line)?;
         }
     }
-    report(&mut out, rt.alloc(), name.unwrap_or(b""), &sheet)
+    report(&mut out, rt.alloc(), &sheet)
 }

@@ -1,5 +1,5 @@
 -- Two rows of cells joined, the even cells from one and the odd ones from the other.
-use Rattle.std.specs.Prelude.{ℕ, ◌+◌, ◌/◌, ◌%◌, Bool, if◌then◌else◌, ◌&&◌, ◌==◌, nat_le}
+use Rattle.std.specs.Prelude.{ℕ, ◌+◌, ◌*◌, ◌/◌, ◌%◌, min, Bool, if◌then◌else◌, ◌&&◌, ◌==◌, nat_le}
 use Rattle.memory.specs.Cells.{Cell, Row, row}
 
 abbrev pub alternating : Row → Row → ℕ → Cell
@@ -12,3 +12,8 @@ interleaved a b = row (a.size + b.size) (alternating a b)
 -- two rows that may be joined: of equal size, and together at most 127 blocks
 abbrev pub level : Row → Row → Bool
 level a b = a.size == b.size && nat_le (a.size + b.size) 130048
+
+-- what any two rows mean together, though only level ones are ever joined: as many cells as both have, and at most 63
+-- blocks of each
+abbrev pub paired : Row → Row → Row
+paired a b = row (2 * min (min a.size b.size) 64512) (alternating a b)

@@ -2,27 +2,29 @@
 
 #![tactic(auto)]
 
-ghost use Rattle.std.specs.Prelude.{true, ◌≡◌, ◌/◌, ◌<◌, if◌then◌else◌, Ok, Err};
+ghost use Rattle.std.specs.Prelude.{◌≡◌, ◌/◌, ◌<◌, if◌then◌else◌, Ok, Err};
 ghost use Rattle.memory.specs.Makes.{outcome};
-ghost use Rattle.paired.specs.Pairs.{interleaved, level};
+ghost use Rattle.paired.specs.Pairs.{paired, interleaved, level};
 ghost use Rattle.std.proofs.Common.{arith, rules};
 ghost use Rattle.memory.specs.Cells.{word};
 
 use memory::{Memory, MemoryFault, WrongSize};
 
-/// Even address n is cell n / 2 of the first memory, odd n is cell (n - 1) / 2 of the second. The two are of equal size, and
-/// have at most 127 blocks together.
+// The most blocks that each half may have, so that both have at most 127.
+const MOST: usize = 63 * 1024;
+
+/// Even address n is cell n / 2 of the first memory, odd n is cell (n - 1) / 2 of the second. That the two fit is known
+/// from `new` and is no invariant of the type, which would then ask of all who name it that `F` and `S` are memories.
 #[derive(Drop)]
-pub struct Pair<F: Memory, S: Memory> {
+pub struct Pair<F, S> {
     first: F,
     second: S,
-    ghost joined: { level (F.Memory.cells first) (S.Memory.cells second) ≡ true },
 }
 
 impl<F: Memory, S: Memory> Pair<F, S> {
     /// Joins two memories of equal size that have at most 127 blocks together; else both come back.
     pub fn new(first: F, second: S) -> Result<Pair<F, S>, WrongSize<(F, S)>>
-        ensures { outcome (λ p. interleaved (F.Memory.cells p.first) (S.Memory.cells p.second)) result ≡ (if level (F.Memory.cells first) (S.Memory.cells second) then Ok (interleaved (F.Memory.cells first) (S.Memory.cells second)) else Err (first, second)) }
+        ensures { outcome (λ p. paired (F.Memory.cells p.first) (S.Memory.cells p.second)) result ≡ (if level (F.Memory.cells first) (S.Memory.cells second) then Ok (interleaved (F.Memory.cells first) (S.Memory.cells second)) else Err (first, second)) }
     {
         let size = first.size();
         if size == second.size() && size + size <= 127 * 1024 {
@@ -36,13 +38,9 @@ impl<F: Memory, S: Memory> Pair<F, S> {
 }
 
 impl<F: Memory, S: Memory> Memory for Pair<F, S> {
-    ghost cells = { λ p. interleaved (F.Memory.cells p.first) (S.Memory.cells p.second) };
+    ghost cells = { λ p. paired (F.Memory.cells p.first) (S.Memory.cells p.second) };
 
-    ghost whole = { λ m.
-        let f = F.Memory.whole m.first in
-        let s = S.Memory.whole m.second in
-        let l = m.joined in
-        Prim.grind (arith, f, s, l) };
+    ghost whole = { Prim.search rules };
 
     ghost beyond = { Prim.search rules };
 
@@ -52,10 +50,13 @@ impl<F: Memory, S: Memory> Memory for Pair<F, S> {
         Prim.grind (arith, rules) };
 
     fn size(&self) -> usize {
-        2 * self.first.size()
+        2 * self.first.size().min(self.second.size()).min(MOST)
     }
 
     fn read(&mut self, at: usize) -> Result<u16, MemoryFault> {
+        if at >= self.size() {
+            return Err(MemoryFault::Range);
+        }
         if at % 2 == 0 {
             self.first.read(at / 2)
         } else {
@@ -64,6 +65,9 @@ impl<F: Memory, S: Memory> Memory for Pair<F, S> {
     }
 
     fn write(&mut self, at: usize, value: u16) -> Result<(), MemoryFault> {
+        if at >= self.size() {
+            return Err(MemoryFault::Range);
+        }
         if at % 2 == 0 {
             self.first.write(at / 2, value)
         } else {

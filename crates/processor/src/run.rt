@@ -30,15 +30,9 @@ fn advance<M: Memory>(m: &mut Mapped<'_, M>, r: &mut Registers) -> Turn
     }
 }
 
-/// At most `budget` steps. Whether they are spent is tested before each.
-// One lifetime for both, since a `Mapped` holds both: at two, the check generates no proof.
+// The loop. One lifetime for map and memory, since a `Mapped` holds both: at two, the check generates no proof.
 #[tactic(auto, using(addressing::proofs::Turns::one_more))]
-pub fn run_steps<'a, M: Memory>(
-    map: &'a UserMap,
-    memory: &'a mut M,
-    r: &mut Registers,
-    budget: u16,
-) -> Ran
+fn steps<'a, M: Memory>(map: &'a UserMap, memory: &'a mut M, r: &mut Registers, budget: u16) -> Ran
     ensures { (result, r.new, M.Memory.cells memory.new) ≡ runs budget 0 map.now r.old (M.Memory.cells memory.old) }
 {
     let mut mapped = Mapped { map, memory };
@@ -58,4 +52,11 @@ pub fn run_steps<'a, M: Memory>(
         steps: budget,
         stop: Stop::Spent { address: r.pc },
     }
+}
+
+/// At most `budget` steps. Whether they are spent is tested before each.
+pub fn run_steps<M: Memory>(map: &UserMap, memory: &mut M, r: &mut Registers, budget: u16) -> Ran
+    ensures { (result, r.new, M.Memory.cells memory.new) ≡ runs budget 0 map.now r.old (M.Memory.cells memory.old) }
+{
+    steps(map, memory, r, budget)
 }

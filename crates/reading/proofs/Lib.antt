@@ -1,3 +1,2 @@
-pub mod Prefix
 pub mod RowLemmas
 pub mod Spelt

@@ -14,12 +14,24 @@ const LONGEST: usize = 4096;
 const BEFORE_LAST: u16 = 0o17777;
 
 /// What follows `word` in the text, if the text begins with it.
-#[tactic(auto, using(crate::proofs::Prefix::after_prefix))]
+// Byte by byte, though the library has `strip_prefix`: a reader that lets other bytes pass differs from this one in one test.
 pub fn after_word<'a>(text: &'a [u8], word: &[u8]) -> Option<&'a [u8]>
     ensures value { left result ≡ after word.now text.now }
     ensures shorter { IfSome result (λ p. length p.now ≤ length text.now) }
 {
-    text.strip_prefix(word)
+    let mut rest = text;
+    let mut wanted = word;
+    while let [w, more @ ..] = wanted {
+        let [b, tail @ ..] = rest else {
+            return None;
+        };
+        if *b != *w {
+            return None;
+        }
+        rest = tail;
+        wanted = more;
+    }
+    Some(rest)
 }
 
 /// What follows the first line of a sheet. One of more than 4,096 bytes is too long, whatever they are; another

@@ -1,8 +1,8 @@
-ghost use Rattle.std.specs.Prelude.{◌≡◌, ℕ, Some};
+ghost use Rattle.std.specs.Prelude.{◌≡◌, ℕ, ◌++◌, OnOk, string_bytes};
 ghost use Rattle.sheets.specs.Lines.{quiet as quiet_row, numbers as line_numbers, line_bytes};
 
 use model::{Denial, Ran, Registers};
-use std::fmt;
+use std::alloc::AllocError;
 use writing::OctalLine;
 
 /// What a granted row shows after its answer 0: what its run made, if it is one, and its user's registers.
@@ -58,16 +58,15 @@ impl Line {
             u16::from(carry),
         ]
     }
-}
 
-impl fmt::Display for Line {
-    ghost output = { λ l. Some (line_bytes l.number l.outcome) };
-
-    fn fmt<W: fmt::Write>(&self, f: &mut fmt::Formatter<W>) -> fmt::Result {
+    /// Appends the line to the report.
+    pub(crate) fn append_to(self, out: &mut String) -> Result<(), AllocError>
+        ensures { OnOk result (string_bytes out.new ≡ string_bytes out.old ++ line_bytes self.number self.outcome) }
+    {
         let octal = OctalLine {
             first: self.number,
             others: &self.numbers(),
         };
-        write!(f, "{octal}")
+        octal.append_to(out)
     }
 }

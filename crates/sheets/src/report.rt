@@ -14,7 +14,6 @@ use memory::{Memory, PlainCore};
 use model::Denial;
 use reading::{Rows, open_sheet};
 use std::alloc::{AllocError, Global};
-use std::fmt::Write;
 
 /// The first line of a report, with its newline.
 const HEADING: &str = "row answer stop steps pc ac0 ac1 ac2 ac3 carry\n";
@@ -55,7 +54,7 @@ fn put_rows<M: Memory + Drop>(
             }
             Err(reason) => Err(reason),
         };
-        write!(out, "{}", Line { number, outcome })?;
+        Line { number, outcome }.append_to(out)?;
     }
     Ok(())
 }
@@ -73,7 +72,7 @@ pub fn carry_out(heap: Global, sheet: &[u8]) -> Result<String, AllocError>
                 number: 0,
                 outcome: Err(Denial::Sheet),
             };
-            write!(out, "{wrong}")?
+            wrong.append_to(&mut out)?
         }
     }
     Ok(out)

@@ -1,7 +1,7 @@
-//! Numbers and lines in octal, written as text.
+//! Numbers and lines in octal, written as bytes or text.
 
 #![tactic(auto)]
 
 pub mod lines;
 
-pub use lines::OctalLine;
+pub use lines::{OctalLine, put_line};

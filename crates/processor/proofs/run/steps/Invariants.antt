@@ -2,7 +2,7 @@ use mathlib.Core.Path.{◌≡◌}
 use Prim.Native.Nat.{◌-◌}
 use Rattle.model.specs.Run.{runs}
 use Rattle.addressing.specs.Mapped.{SameParts}
-use Rattle.processor.proofs.run.run_steps.Given as goal
+use Rattle.processor.proofs.run.steps.Given as goal
 
 -- the steps that are left come to what the whole run comes to
 abbrev pub invariant-loop-done : goal.invariant-loop-done
